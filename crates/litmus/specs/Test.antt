@@ -6,12 +6,12 @@ use Rattle.std.specs.Of.Vec.{vec-items}
 use Rattle.std.specs.declared.vec.Vec.{Vec}
 use Rattle.std.specs.declared.result.Result.{Result}
 use Rattle.std.specs.declared.result.Result.the-variants.{Ok, Err}
-use Rattle.memory.specs.declared.held.Held.{Held as HeldMemory}
-use Rattle.memory.specs.declared.quiescing.Quiescing.{Quiescing as Layer}
+use Rattle.held.specs.declared.Held.{Held as HeldMemory}
+use Rattle.quiescing.specs.declared.Quiescing.{Quiescing as Layer}
 use Rattle.memory.specs.declared.run.Call.{Call}
 use Rattle.memory.specs.declared.run.Answer.{Answer}
-use Rattle.memory.specs.Held.{held}
-use Rattle.memory.specs.Quiescing.{quiescing}
+use Rattle.held.specs.Held.{held}
+use Rattle.quiescing.specs.Quiescing.{quiescing}
 use Rattle.memory.specs.Meaning.{Meaning, fresh, isNew}
 use Rattle.memory.specs.History.{Ran}
 use Rattle.litmus.specs.declared.kind.Kind.{Kind}

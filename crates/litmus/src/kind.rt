@@ -1,16 +1,16 @@
 // The three memories, and a run of calls on a new one of them.
 ghost use Rattle.litmus.specs.Test.{begun, Obeys, Layered};
-use memory::held::Held;
-use memory::held::calls::HeldMemory;
-use memory::immediate::Immediate;
-use memory::immediate::calls::ImmediateMemory;
+use held::Held;
+use held::calls::HeldMemory;
+use immediate::Immediate;
+use immediate::calls::ImmediateMemory;
 use memory::memory::Memory;
-use memory::quiescing::Quiescing;
-use memory::quiescing::calls::QuiescingMemory;
 use memory::run::Answer;
 use memory::run::Call;
 use memory::run::RunFault;
 use memory::run::run;
+use quiescing::Quiescing;
+use quiescing::calls::QuiescingMemory;
 use std::alloc::Global;
 use std::error::Error;
 use std::fmt;

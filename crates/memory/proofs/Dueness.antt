@@ -69,6 +69,10 @@ abbrev pub dateDue : Meaning → Option ℕ → Bool
 dateDue m None = false
 dateDue m (Some d) = leb (d + m .bound) (m .clock)
 
+-- what was told of a thread's oldest date decides
+pub told-due : (m : Meaning) (told told′ oldest : Option ℕ) (r : Bool) → told ≡ oldest → told ≡ told′ → dateDue m told′ ≡ r → dateDue m oldest ≡ r
+told-due m told told′ oldest r e f d = ap (dateDue m) (sym e ∙ f) ∙ d
+
 oldest-tells : (m : Meaning) (ws : List Write) → Rises dateOf ws → anyOf (isDue m) ws ≡ dateDue m (dateOfFirst ws)
 oldest-tells m [] up = refl
 oldest-tells m (w ∷ ws) up = at (cases-lt (m .clock) (w .date + m .bound))

@@ -1,15 +1,10 @@
 pub mod Beginnings
 pub mod Carrying
-pub mod Draining
 pub mod Dueness
 pub mod Emptiness
-pub mod HeldSound
-pub mod ImmediateLands
-pub mod Layering
 pub mod Laws
 pub mod Passing
 pub mod Performing
-pub mod Rows
 pub mod Soundness
 pub mod Standing
 pub mod Views

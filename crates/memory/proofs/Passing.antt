@@ -15,17 +15,17 @@ use Rattle.memory.specs.Meaning.{Meaning, waitingCount, due}
 use Rattle.memory.specs.Checks.{Check, check, firstNo, inRange, threadInRange, storeChecks, loadChecks, landChecks, exchangeChecks, tickChecks}
 
 -- a list of two checks, of which both pass, or only the second fails
-pub both-pass : {a b : Bool} (e f : Refusal) → a ≡ true → b ≡ true → firstNo (check a e ∷ check b f ∷ []) ≡ None
+pub both-pass : {E : Type 0} {a b : Bool} (e f : E) → a ≡ true → b ≡ true → firstNo (check a e ∷ check b f ∷ []) ≡ None
 both-pass e f p q = rw (p, q) refl
 
-pub second-fails : {a b : Bool} (e f : Refusal) → a ≡ true → b ≡ false → firstNo (check a e ∷ check b f ∷ []) ≡ Some f
+pub second-fails : {E : Type 0} {a b : Bool} (e f : E) → a ≡ true → b ≡ false → firstNo (check a e ∷ check b f ∷ []) ≡ Some f
 second-fails e f p q = rw (p, q) refl
 
-pub passed-head : (a : Bool) (e : Refusal) (cs : List Check) → firstNo (check a e ∷ cs) ≡ None → a ≡ true
+pub passed-head : {E : Type 0} (a : Bool) (e : E) (cs : List (Check E)) → firstNo (check a e ∷ cs) ≡ None → a ≡ true
 passed-head true e cs p = refl
 passed-head false e cs p = let z : _≡_ {A = ℕ} 0 1 = cc in absurd (omega arith)
 
-pub passed-tail : (a : Bool) (e : Refusal) (cs : List Check) → firstNo (check a e ∷ cs) ≡ None → firstNo cs ≡ None
+pub passed-tail : {E : Type 0} (a : Bool) (e : E) (cs : List (Check E)) → firstNo (check a e ∷ cs) ≡ None → firstNo cs ≡ None
 passed-tail true e cs p = p
 passed-tail false e cs p = let z : _≡_ {A = ℕ} 0 1 = cc in absurd (omega arith)
 

@@ -29,16 +29,16 @@ pub record Sound (m : Meaning) : Type 0 where
   pub past : (t : ℕ) → All (λ (w : Write). w .date ≤ m .clock) (queue m t)
 
 -- an accepted call passes every check, and then P holds
-pub record Accepted (checks : List Check) (P : Type 0) : Type 0 where
+pub record Accepted (checks : List (Check Refusal)) (P : Type 0) : Type 0 where
   pub passes : firstNo checks ≡ None
   pub does : P
 
 -- a refused call tells the first check that fails, and changes nothing
-pub record Refuses (checks : List Check) (e : Refusal) (m m′ : Meaning) : Type 0 where
+pub record Refuses (checks : List (Check Refusal)) (e : Refusal) (m m′ : Meaning) : Type 0 where
   pub fails : firstNo checks ≡ Some e
   pub same : m′ ≡ m
 
-abbrev pub Answers : {R : Type 0} → List Check → Meaning → Meaning → Result R Refusal → (R → Type 0) → Type 0
+abbrev pub Answers : {R : Type 0} → List (Check Refusal) → Meaning → Meaning → Result R Refusal → (R → Type 0) → Type 0
 Answers checks m m′ (Ok a) P = Accepted checks (P a)
 Answers checks m m′ (Err e) P = Refuses checks e m m′
 

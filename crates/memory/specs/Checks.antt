@@ -9,15 +9,16 @@ use Rattle.memory.specs.declared.refusal.Refusal.{Refusal}
 use Rattle.memory.specs.declared.refusal.Refusal.the-variants.{OutOfRange, BufferFull, NothingWaiting, WritesWaiting, WriteDue, ClockAtEnd, NotMade}
 use Rattle.memory.specs.Meaning.{Meaning, waitingCount, due}
 
-pub record Check : Type 0 where
+-- a check, with the refusal that it gives for a no
+pub record Check (E : Type 0) : Type 0 where
   pub passes : Bool
-  pub refusal : Refusal
+  pub refusal : E
 
-abbrev pub check : Bool → Refusal → Check
+abbrev pub check : {E : Type 0} → Bool → E → Check E
 check b e = record { passes = b; refusal = e }
 
 -- the first no, or none
-abbrev pub firstNo : List Check → Option Refusal
+abbrev pub firstNo : {E : Type 0} → List (Check E) → Option E
 firstNo [] = None
 firstNo (c ∷ cs) = cond (c .passes) (firstNo cs) (Some (c .refusal))
 
@@ -27,20 +28,20 @@ threadInRange t = ltb t 8
 abbrev pub inRange : ℕ → ℕ → Bool
 inRange t c = threadInRange t && ltb c 64
 
-abbrev pub storeChecks : ℕ → ℕ → Meaning → List Check
+abbrev pub storeChecks : ℕ → ℕ → Meaning → List (Check Refusal)
 storeChecks t c m = check (inRange t c) OutOfRange ∷ check (ltb (waitingCount m t) 8) BufferFull ∷ []
 
-abbrev pub loadChecks : ℕ → ℕ → List Check
+abbrev pub loadChecks : ℕ → ℕ → List (Check Refusal)
 loadChecks t c = check (inRange t c) OutOfRange ∷ []
 
-abbrev pub landChecks : ℕ → Meaning → List Check
+abbrev pub landChecks : ℕ → Meaning → List (Check Refusal)
 landChecks t m = check (threadInRange t) OutOfRange ∷ check (ltb 0 (waitingCount m t)) NothingWaiting ∷ []
 
-abbrev pub exchangeChecks : ℕ → ℕ → Meaning → List Check
+abbrev pub exchangeChecks : ℕ → ℕ → Meaning → List (Check Refusal)
 exchangeChecks t c m = check (inRange t c) OutOfRange ∷ check (eqb (waitingCount m t) 0) WritesWaiting ∷ []
 
 -- a self-landing memory lands what would wait too long, so only another is asked for it
-abbrev pub tickChecks : Meaning → List Check
+abbrev pub tickChecks : Meaning → List (Check Refusal)
 tickChecks m = check (ltb (m .clock) 1000000) ClockAtEnd ∷ check (m .selfLanding || not (due m)) WriteDue ∷ []
 
 -- a bound or a limit

@@ -34,7 +34,7 @@ pub record Event : Type 0 where
 abbrev pub event : Call → Answer → List Landing → Event
 event c a ls = record { call = c; answer = a; landings = ls }
 
-abbrev pub checksOf : Call → Meaning → List Check
+abbrev pub checksOf : Call → Meaning → List (Check Refusal)
 checksOf (Store t c v) m = storeChecks t c m
 checksOf (Load t c) m = loadChecks t c
 checksOf (Land t) m = landChecks t m

@@ -1,11 +1,6 @@
 pub mod Calls
 pub mod Checks
-pub mod Held
 pub mod History
-pub mod Immediate
 pub mod Landings
 pub mod Meaning
 pub mod Number
-pub mod Queues
-pub mod Quiescing
-pub mod StoreBuffer

@@ -1,10 +1,6 @@
-// Memories that processors share, with bounded store buffers.
-pub mod held;
-pub mod immediate;
+// Memories that processors share, with bounded store buffers: what every memory means and promises, and runs of any memory.
 pub mod memory;
 pub mod newness;
-pub mod quiescing;
 pub mod refusal;
 pub mod run;
-mod store_buffer;
 pub mod write;

@@ -2,8 +2,8 @@
 #[cfg(test)]
 mod every_memory;
 #[cfg(test)]
-mod held;
+mod held_memory;
 #[cfg(test)]
-mod immediate;
+mod immediate_memory;
 #[cfg(test)]
-mod quiescing;
+mod quiescing_layer;
