@@ -1,7 +1,19 @@
 pub mod BoundStays
 pub mod Counts
+pub mod Exclusion
+pub mod HeldRuns
 pub mod LateSweeps
+pub mod LockFirst
+pub mod LockMemory
+pub mod LockPaths
+pub mod LockSteps
+pub mod LockTimes
+pub mod LockView
+pub mod Locked
 pub mod OnePlace
+pub mod OwnedActs
+pub mod OwnedFacts
+pub mod OwnedKeep
 pub mod Passed
 pub mod Pigeons
 pub mod Placed
@@ -17,3 +29,7 @@ pub mod Shown
 pub mod ShownKeeps
 pub mod StepRows
 pub mod ThreadRows
+pub mod TurnsActs
+pub mod TurnsCarry
+pub mod TurnsKeep
+pub mod TurnsParts

@@ -90,3 +90,7 @@ ShortLists b (e ∷ h) = ShortAfter b (e .call) e h × ShortLists b h
 
 abbrev pub A-late-sweep-leaves-a-short-list : Type 0
 A-late-sweep-leaves-a-short-list = (h : List Event) (s : State) → Explains h s → ShortLists (s .memory .bound) h
+
+-- At most one thread is inside the lock.
+abbrev pub At-most-one-inside : Type 0
+At-most-one-inside = (h : List Event) (s : State) → Explains h s → (t u : ℕ) → insideIn h t ≡ true → insideIn h u ≡ true → t ≡ u

@@ -2,6 +2,8 @@ pub mod Begin
 pub mod Codes
 pub mod Guarantees
 pub mod History
+pub mod MarkedRuns
+pub mod Runs
 pub mod Settings
 pub mod Steps
 pub mod Tables

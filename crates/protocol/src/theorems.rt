@@ -1,6 +1,7 @@
 // What is proved of every history, over every memory and for every list of calls. A call of one of these functions does nothing:
 // its contract is the theorem.
-ghost use Rattle.protocol.specs.Guarantees.{Tables-show-the-history, Every-node-in-one-place, A-late-sweep-leaves-a-short-list};
+ghost use Rattle.protocol.specs.MarkedRuns.{MarkedRuns};
+ghost use Rattle.protocol.specs.Guarantees.{Tables-show-the-history, Every-node-in-one-place, A-late-sweep-leaves-a-short-list, At-most-one-inside};
 
 // The tables' guards, node states, lists, operations and who is inside are exactly what the history gives.
 pub fn tables_show_the_history()
@@ -17,4 +18,14 @@ pub fn every_node_is_in_one_place()
 // as the machine has hazard cells.
 pub fn a_late_sweep_leaves_a_short_list()
     ensures { λ _. ⌜ A-late-sweep-leaves-a-short-list ⌝ }
+{}
+
+// At most one thread is inside the biased lock.
+pub fn at_most_one_thread_is_inside()
+    ensures { λ _. ⌜ At-most-one-inside ⌝ }
+{}
+
+// Eight runs answer as they are marked, and every list of calls over a memory that lands nothing by itself is a history.
+pub fn the_marked_runs_answer_as_marked()
+    ensures { λ _. ⌜ MarkedRuns ⌝ }
 {}
