@@ -27,21 +27,21 @@ onward-trans a b = record { bound = b .bound ∙ a .bound; clock = omega arith }
 onward-lands : {m m′ : Meaning} → Lands m m′ → Onward m m′
 onward-lands l = let e = lands-clock l in record { bound = lands-fixed l .bound; clock = omega arith }
 
-onward-landed : (t : ℕ) (m : Meaning) → Onward m (landed t m)
+pub onward-landed : (t : ℕ) (m : Meaning) → Onward m (landed t m)
 onward-landed t m = let e = landed-clock t m in record { bound = landed-fixed t m .bound; clock = omega arith }
 
-onward-stored : (t c v : ℕ) (m : Meaning) → Onward m (stored t c v m)
+pub onward-stored : (t c v : ℕ) (m : Meaning) → Onward m (stored t c v m)
 unfolding stored
 onward-stored t c v m = record { bound = refl; clock = omega arith }
 
-onward-exchanged : (c old new : ℕ) (m : Meaning) → Onward m (exchanged c old new m)
+pub onward-exchanged : (c old new : ℕ) (m : Meaning) → Onward m (exchanged c old new m)
 onward-exchanged c old new m = go (eqb (cell m c) old) refl
   where
     go : (b : Bool) → eqb (cell m c) old ≡ b → Onward m (exchanged c old new m)
     go true e = let p = exchanged-puts c old new m e in let f = p .clock in record { bound = p .fixed .bound; clock = omega arith }
     go false e = onward-same (exchanged-none c old new m e)
 
-onward-ticked : (m : Meaning) → Onward m (ticked m)
+pub onward-ticked : (m : Meaning) → Onward m (ticked m)
 onward-ticked m = let p = ticked-moves m in let f = p .clock in record { bound = p .fixed .bound; clock = omega arith }
 
 pub meets-onward : (t : ℕ) (q : Request) (m m′ : Meaning) (k : Told) → Meets t q m m′ k → Onward m m′

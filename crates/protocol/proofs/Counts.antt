@@ -1,14 +1,14 @@
 -- A node was retired as often as it was freed, and once more while it is retired. Assumes nothing.
 use mathlib.Core.Path.{_≡_, refl, sym, ap, _∙_}
-use mathlib.Core.Bool.{Bool, true, false, cond, not, _&&_}
+use mathlib.Core.Bool.{Bool, true, false, cond, _&&_}
 use mathlib.Core.Logic.{_⊎_, inl, inr, _≢_}
 use mathlib.Core.List.{List, [], _∷_}
 use Prim.Native.Nat.{ℕ, _+_, _<_, _≤_}
 use native.Mathlib.Omega.{arith}
 use lib.Dec.{eqb, ltb}
-use Rattle.std.specs.declared.option.Option.the-variants.{Some, None}
-use Rattle.std.proofs.shelf.Tests.{cases-eq, cases-lt, lt-ltb, eq-eqb, ne-eqb, eqb-true, and-right}
-use Rattle.memory.specs.Meaning.{Meaning, cell}
+use Rattle.std.specs.declared.option.Option.the-variants.{Some}
+use Rattle.std.proofs.shelf.Tests.{cases-eq, cases-lt, lt-ltb, eq-eqb, ne-eqb, and-right}
+use Rattle.memory.specs.Meaning.{Meaning}
 use Rattle.protocol.specs.declared.answer.Answer.{Answer}
 use Rattle.protocol.specs.declared.answer.Answer.the-variants.{Done, Ended, Refused}
 use Rattle.protocol.specs.declared.answer.Refusal.{Refusal}
@@ -19,16 +19,17 @@ use Rattle.protocol.specs.declared.node.NodeState.the-variants.{Free, Taken, P
 use Rattle.protocol.specs.declared.operation.Operation.{Operation}
 use Rattle.protocol.specs.declared.operation.Operation.the-variants.{Protect, Copy, Release, Publish, Remove, Reclaim, OwnerLock, OwnerUnlock, OtherLock, OtherUnlock}
 use Rattle.protocol.specs.declared.retired.Retired.{Retired}
-use Rattle.protocol.specs.Begin.{named, isFree, ready}
+use Rattle.protocol.specs.Begin.{named, ready}
 use Rattle.protocol.specs.Guarantees.{isRetired, retiredIn}
-use Rattle.protocol.specs.History.{Event, accepted, goingOn, wasOccupied, doingIn, isReclaim, isRemove, sweepClockIn, loadedIn, removingIn, listIn, names, freedBy, retiredBy, timesFreed, timesRetired, stateStep, takenBy, stateAfter, stateIn}
+use Rattle.protocol.specs.History.{Event, accepted, goingOn, wasOccupied, doingIn, isReclaim, publishing, isRemove, sweepClockIn, loadedIn, removingIn, listIn, names, freedBy, retiredBy, timesFreed, timesRetired, stateStep, takenBy, stateAfter, stateIn}
 use Rattle.protocol.specs.Steps.{Told, doneTold, request, after, keeps, kept, freed}
-use Rattle.protocol.specs.Tables.{doingAt, Tables, State, threadOf, nodeOf, Point, idle, protect1, protect2, protect3, protect4, copy1, release1, publish1, remove1, remove2, remove3, reclaim1, reclaim2, reclaim3, ownerLock1, ownerLock2, ownerLock3, ownerLock4, ownerLock5, ownerUnlock1, ownerUnlock2, ownerUnlock3, ownerUnlock4, otherLock1, otherLock2, otherLock3, otherLock4, otherLock5, otherLock6, otherLock7, otherLock8, otherUnlock1, otherUnlock2, otherUnlock3}
+use Rattle.protocol.specs.Tables.{doingAt, Tables, State, threadOf, Point, idle, protect1, protect2, protect3, protect4, copy1, release1, publish1, remove1, remove2, remove3, reclaim1, reclaim2, reclaim3, ownerLock1, ownerLock2, ownerLock3, ownerLock4, ownerLock5, ownerUnlock1, ownerUnlock2, ownerUnlock3, ownerUnlock4, otherLock1, otherLock2, otherLock3, otherLock4, otherLock5, otherLock6, otherLock7, otherLock8, otherUnlock1, otherUnlock2, otherUnlock3}
 use Rattle.protocol.specs.Transition.{Meets, Trans, refuses, setsUp, ticks, lands, begins, steps, here, beginAsks}
 use Rattle.protocol.proofs.Passed.{rest-passed, begin-passed}
 use Rattle.protocol.proofs.Placed.{Placed, Inv}
+use Rattle.protocol.proofs.PlacedKeeps.{free-is}
 use Rattle.protocol.proofs.PlacedNodes.{names-parts}
-use Rattle.protocol.proofs.Roots.{below-lands, placed-below, remove-done}
+use Rattle.protocol.proofs.Roots.{remove-was, remove-done}
 use Rattle.protocol.proofs.Shown.{Shown}
 
 abbrev pub CountsAgree : ℕ → List Event → ℕ → Type 0
@@ -59,29 +60,22 @@ refused-balances b (Land u) e h n real = quiet-balances b (Land u) (Refused e) h
 refused-balances b (Begin u o x y) e h n real = quiet-balances b (Begin u o x y) (Refused e) h n real refl refl refl
 refused-balances b (Step u) e h n real = quiet-balances b (Step u) (Refused e) h n real refl refl refl
 
--- a node that a test for it moves from one state that is not retired to another is retired no more and no less
-moved-same : (m n : ℕ) (y : Bool) (to was : NodeState) → isRetired to ≡ false → (y ≡ true → m ≡ n → isRetired was ≡ false) → isRetired (cond (y && eqb m n) to was) ≡ isRetired was
-moved-same m n false to was e h = refl
-moved-same m n true to was e h = at (cases-eq m n)
+-- a node that moves from one state that is not retired (or not free) to another is retired (or free) no more and no less
+pub moved-same : (f : NodeState → Bool) (m n : ℕ) (y : Bool) (to was : NodeState) → f to ≡ false → (y ≡ true → m ≡ n → f was ≡ false) → f (cond (y && eqb m n) to was) ≡ f was
+moved-same f m n false to was e h = refl
+moved-same f m n true to was e h = at (cases-eq m n)
   where
-    at : (m ≡ n) ⊎ (m ≢ n) → isRetired (cond (eqb m n) to was) ≡ isRetired was
-    at (inl f) = rw (eq-eqb m n f, e, h refl f) refl
+    at : (m ≡ n) ⊎ (m ≢ n) → f (cond (eqb m n) to was) ≡ f was
+    at (inl i) = rw (eq-eqb m n i, e, h refl i) refl
     at (inr ne) = rw (ne-eqb m n ne) refl
 
 -- Begin: a publish takes a free node.
-free-not-retired : (z : NodeState) → isFree z ≡ true → isRetired z ≡ false
-free-not-retired Free e = refl
-free-not-retired (Taken t) e = refl
-free-not-retired (Published r) e = refl
-free-not-retired (Removed t) e = refl
-free-not-retired (RetiredBy t) e = let z : _≡_ {A = ℕ} 0 1 = cc in absurd (omega arith)
-
 begun-same : (b : ℕ) (h : List Event) (x : Tables) → Shown b h x → (t n : ℕ) (p : Operation) → ready x (threadOf x t) p ≡ true → isRetired (takenBy t (Some p) n (stateIn b h n)) ≡ isRetired (stateIn b h n)
 begun-same b h x shown t n (Protect r i) e = refl
 begun-same b h x shown t n (Copy i j) e = refl
 begun-same b h x shown t n (Release i) e = refl
 begun-same b h x shown t n (Publish r m) e =
-    moved-same m n true (Taken t) (stateIn b h n) refl (λ _ f. free-not-retired (stateIn b h n) (rw (f, shown .shows .nodes n) at e))
+    moved-same isRetired m n true (Taken t) (stateIn b h n) refl (λ _ f. ap isRetired (free-is (stateIn b h n) (rw (f, shown .shows .nodes n) at e)))
 begun-same b h x shown t n (Remove r) e = refl
 begun-same b h x shown t n Reclaim e = refl
 begun-same b h x shown t n OwnerLock e = refl
@@ -93,6 +87,7 @@ begun-same b h x shown t n OtherUnlock e = refl
 pub record Calm (p : Point) : Type 0 where
   pub noRemove : isRemove 3 (doingAt p) ≡ false
   pub noReclaim : isReclaim 3 (doingAt p) ≡ false
+  pub noPublish : (n : ℕ) → publishing n (doingAt p) ≡ false
   pub same : (t : ℕ) (a : Answer) (found n : ℕ) (was : NodeState) → stateStep t (doingAt p) a found n was ≡ was
 
 pub data NodeCase (p : Point) : Type 0 where
@@ -103,45 +98,46 @@ pub data NodeCase (p : Point) : Type 0 where
   calm : Calm p → NodeCase p
 
 pub node-case : (p : Point) → NodeCase p
-node-case idle = calm (record { noRemove = refl; noReclaim = refl; same = λ t a found n was. refl })
-node-case (protect1 r h) = calm (record { noRemove = refl; noReclaim = refl; same = λ t a found n was. refl })
-node-case (protect2 r h n) = calm (record { noRemove = refl; noReclaim = refl; same = λ t a found n was. refl })
-node-case (protect3 r h n) = calm (record { noRemove = refl; noReclaim = refl; same = λ t a found n was. refl })
-node-case (protect4 r h) = calm (record { noRemove = refl; noReclaim = refl; same = λ t a found n was. refl })
-node-case (copy1 a b) = calm (record { noRemove = refl; noReclaim = refl; same = λ t a found n was. refl })
-node-case (release1 a) = calm (record { noRemove = refl; noReclaim = refl; same = λ t a found n was. refl })
+node-case idle = calm (record { noRemove = refl; noReclaim = refl; noPublish = λ n. refl; same = λ t a found n was. refl })
+node-case (protect1 r h) = calm (record { noRemove = refl; noReclaim = refl; noPublish = λ n. refl; same = λ t a found n was. refl })
+node-case (protect2 r h n) = calm (record { noRemove = refl; noReclaim = refl; noPublish = λ n. refl; same = λ t a found n was. refl })
+node-case (protect3 r h n) = calm (record { noRemove = refl; noReclaim = refl; noPublish = λ n. refl; same = λ t a found n was. refl })
+node-case (protect4 r h) = calm (record { noRemove = refl; noReclaim = refl; noPublish = λ n. refl; same = λ t a found n was. refl })
+node-case (copy1 a b) = calm (record { noRemove = refl; noReclaim = refl; noPublish = λ n. refl; same = λ t a found n was. refl })
+node-case (release1 a) = calm (record { noRemove = refl; noReclaim = refl; noPublish = λ n. refl; same = λ t a found n was. refl })
 node-case (publish1 r n) = publishes refl
-node-case (remove1 r) = calm (record { noRemove = refl; noReclaim = refl; same = λ t a found n was. refl })
+node-case (remove1 r) = calm (record { noRemove = refl; noReclaim = refl; noPublish = λ n. refl; same = λ t a found n was. refl })
 node-case (remove2 r n) = removes refl
 node-case (remove3 r n) = retires refl
-node-case reclaim1 = calm (record { noRemove = refl; noReclaim = refl; same = λ t a found n was. refl })
-node-case (reclaim2 now seen) = calm (record { noRemove = refl; noReclaim = refl; same = λ t a found n was. refl })
+node-case reclaim1 = calm (record { noRemove = refl; noReclaim = refl; noPublish = λ n. refl; same = λ t a found n was. refl })
+node-case (reclaim2 now seen) = calm (record { noRemove = refl; noReclaim = refl; noPublish = λ n. refl; same = λ t a found n was. refl })
 node-case (reclaim3 now seen) = frees refl
-node-case ownerLock1 = calm (record { noRemove = refl; noReclaim = refl; same = λ t a found n was. refl })
-node-case ownerLock2 = calm (record { noRemove = refl; noReclaim = refl; same = λ t a found n was. refl })
-node-case (ownerLock3 v) = calm (record { noRemove = refl; noReclaim = refl; same = λ t a found n was. refl })
-node-case ownerLock4 = calm (record { noRemove = refl; noReclaim = refl; same = λ t a found n was. refl })
-node-case ownerLock5 = calm (record { noRemove = refl; noReclaim = refl; same = λ t a found n was. refl })
-node-case ownerUnlock1 = calm (record { noRemove = refl; noReclaim = refl; same = λ t a found n was. refl })
-node-case ownerUnlock2 = calm (record { noRemove = refl; noReclaim = refl; same = λ t a found n was. refl })
-node-case ownerUnlock3 = calm (record { noRemove = refl; noReclaim = refl; same = λ t a found n was. refl })
-node-case ownerUnlock4 = calm (record { noRemove = refl; noReclaim = refl; same = λ t a found n was. refl })
-node-case otherLock1 = calm (record { noRemove = refl; noReclaim = refl; same = λ t a found n was. refl })
-node-case otherLock2 = calm (record { noRemove = refl; noReclaim = refl; same = λ t a found n was. refl })
-node-case (otherLock3 v) = calm (record { noRemove = refl; noReclaim = refl; same = λ t a found n was. refl })
-node-case (otherLock4 v) = calm (record { noRemove = refl; noReclaim = refl; same = λ t a found n was. refl })
-node-case (otherLock5 v) = calm (record { noRemove = refl; noReclaim = refl; same = λ t a found n was. refl })
-node-case (otherLock6 v note) = calm (record { noRemove = refl; noReclaim = refl; same = λ t a found n was. refl })
-node-case (otherLock7 v note) = calm (record { noRemove = refl; noReclaim = refl; same = λ t a found n was. refl })
-node-case (otherLock8 v) = calm (record { noRemove = refl; noReclaim = refl; same = λ t a found n was. refl })
-node-case otherUnlock1 = calm (record { noRemove = refl; noReclaim = refl; same = λ t a found n was. refl })
-node-case (otherUnlock2 v) = calm (record { noRemove = refl; noReclaim = refl; same = λ t a found n was. refl })
-node-case otherUnlock3 = calm (record { noRemove = refl; noReclaim = refl; same = λ t a found n was. refl })
+node-case ownerLock1 = calm (record { noRemove = refl; noReclaim = refl; noPublish = λ n. refl; same = λ t a found n was. refl })
+node-case ownerLock2 = calm (record { noRemove = refl; noReclaim = refl; noPublish = λ n. refl; same = λ t a found n was. refl })
+node-case (ownerLock3 v) = calm (record { noRemove = refl; noReclaim = refl; noPublish = λ n. refl; same = λ t a found n was. refl })
+node-case ownerLock4 = calm (record { noRemove = refl; noReclaim = refl; noPublish = λ n. refl; same = λ t a found n was. refl })
+node-case ownerLock5 = calm (record { noRemove = refl; noReclaim = refl; noPublish = λ n. refl; same = λ t a found n was. refl })
+node-case ownerUnlock1 = calm (record { noRemove = refl; noReclaim = refl; noPublish = λ n. refl; same = λ t a found n was. refl })
+node-case ownerUnlock2 = calm (record { noRemove = refl; noReclaim = refl; noPublish = λ n. refl; same = λ t a found n was. refl })
+node-case ownerUnlock3 = calm (record { noRemove = refl; noReclaim = refl; noPublish = λ n. refl; same = λ t a found n was. refl })
+node-case ownerUnlock4 = calm (record { noRemove = refl; noReclaim = refl; noPublish = λ n. refl; same = λ t a found n was. refl })
+node-case otherLock1 = calm (record { noRemove = refl; noReclaim = refl; noPublish = λ n. refl; same = λ t a found n was. refl })
+node-case otherLock2 = calm (record { noRemove = refl; noReclaim = refl; noPublish = λ n. refl; same = λ t a found n was. refl })
+node-case (otherLock3 v) = calm (record { noRemove = refl; noReclaim = refl; noPublish = λ n. refl; same = λ t a found n was. refl })
+node-case (otherLock4 v) = calm (record { noRemove = refl; noReclaim = refl; noPublish = λ n. refl; same = λ t a found n was. refl })
+node-case (otherLock5 v) = calm (record { noRemove = refl; noReclaim = refl; noPublish = λ n. refl; same = λ t a found n was. refl })
+node-case (otherLock6 v note) = calm (record { noRemove = refl; noReclaim = refl; noPublish = λ n. refl; same = λ t a found n was. refl })
+node-case (otherLock7 v note) = calm (record { noRemove = refl; noReclaim = refl; noPublish = λ n. refl; same = λ t a found n was. refl })
+node-case (otherLock8 v) = calm (record { noRemove = refl; noReclaim = refl; noPublish = λ n. refl; same = λ t a found n was. refl })
+node-case otherUnlock1 = calm (record { noRemove = refl; noReclaim = refl; noPublish = λ n. refl; same = λ t a found n was. refl })
+node-case (otherUnlock2 v) = calm (record { noRemove = refl; noReclaim = refl; noPublish = λ n. refl; same = λ t a found n was. refl })
+node-case otherUnlock3 = calm (record { noRemove = refl; noReclaim = refl; noPublish = λ n. refl; same = λ t a found n was. refl })
+
+-- what the thread at a point is doing
+pub doing-at : (b : ℕ) (h : List Event) (x : Tables) → Shown b h x → (t : ℕ) (q : Point) → threadOf x t .point ≡ q → doingIn h t ≡ doingAt q
+doing-at b h x shown t q e = sym (shown .shows .doing t) ∙ ap (λ (y : Point). doingAt y) e
 
 module _ (b : ℕ) (h : List Event) (x : Tables) (m : Meaning) (p : Placed x m) (shown : Shown b h x) (t n : ℕ) (real : 0 < n) where
-  doing-at : (q : Point) → threadOf x t .point ≡ q → doingIn h t ≡ doingAt q
-  doing-at q e = sym (shown .shows .doing t) ∙ ap (λ (y : Point). doingAt y) e
-
   -- a step that retires and frees nothing
   unlisted : (a : Answer) → isRemove 3 (doingIn h t) ≡ false → isReclaim 3 (doingIn h t) ≡ false
       → isRetired (stateStep t (doingIn h t) a (removingIn h t) n (stateIn b h n)) ≡ isRetired (stateIn b h n) → Balances b (Step t) a h n
@@ -155,13 +151,13 @@ module _ (b : ℕ) (h : List Event) (x : Tables) (m : Meaning) (p : Placed x m) 
 
   calm-balances : (a : Answer) (q : Point) → threadOf x t .point ≡ q → Calm q → Balances b (Step t) a h n
   calm-balances a q e c =
-      let d = doing-at q e in
+      let d = doing-at b h x shown t q e in
       unlisted a (rw d (c .noRemove)) (rw d (c .noReclaim)) (rw (d, c .same t a (removingIn h t) n (stateIn b h n)) refl)
 
   publish-balances : (a : Answer) (r k : ℕ) → threadOf x t .point ≡ publish1 r k → Balances b (Step t) a h n
   publish-balances a r k e =
-      let d = doing-at (publish1 r k) e in
-      unlisted a (rw d refl) (rw d refl) (rw d (moved-same k n true (cond (wasOccupied a) Free (Published r)) (stateIn b h n) (to (wasOccupied a)) (λ _ f. was f)))
+      let d = doing-at b h x shown t (publish1 r k) e in
+      unlisted a (rw d refl) (rw d refl) (rw d (moved-same isRetired k n true (cond (wasOccupied a) Free (Published r)) (stateIn b h n) (to (wasOccupied a)) (λ _ f. was f)))
     where
       to : (y : Bool) → isRetired (cond y Free (Published r)) ≡ false
       to true = refl
@@ -170,31 +166,20 @@ module _ (b : ℕ) (h : List Event) (x : Tables) (m : Meaning) (p : Placed x m) 
       was : k ≡ n → isRetired (stateIn b h n) ≡ false
       was f = rw (sym (shown .shows .nodes n), sym f, p .taking t r k e) refl
 
-  -- the exchange was done, so the root held the node
-  remove-was : (r k : ℕ) (m′ : Meaning) (told : Told) → threadOf x t .point ≡ remove2 r k → Meets t (request (here x m t) (remove2 r k)) m m′ told → doneTold told ≡ true → nodeOf x k ≡ Published r
-  remove-was r k m′ told e w done =
-      let fits = rw e at (p .shape .fits t) in
-      let lt = fits .0 in
-      let d : true ≡ eqb (cell (w .2 .between) r) k = sym done ∙ ap doneTold (w .1) ∙ w .2 .answer in
-      let held : cell (w .2 .between) r ≡ k = eqb-true (cell (w .2 .between) r) k (sym d) in
-      let same : cell (w .2 .between) r ≡ cell m r = below-lands (x .settings .roots) m (w .2 .lands) (placed-below x m p) .cells r lt in
-      let c : cell m r ≡ k = sym same ∙ held in
-      rw c at (p .rooted r lt (rw c (fits .1)))
-
   remove-balances : (a : Answer) (r k : ℕ) (m′ : Meaning) (told : Told) → threadOf x t .point ≡ remove2 r k → Meets t (request (here x m t) (remove2 r k)) m m′ told → a ≡ after (here x m t) (remove2 r k) told .answer → Balances b (Step t) a h n
   remove-balances a r k m′ told e w ans =
-      let d = doing-at (remove2 r k) e in
+      let d = doing-at b h x shown t (remove2 r k) e in
       let found : removingIn h t ≡ k = rw e at (shown .known t) in
-      unlisted a (rw d refl) (rw d refl) (rw (d, found) (moved-same k n (goingOn a) (Removed t) (stateIn b h n) refl was))
+      unlisted a (rw d refl) (rw d refl) (rw (d, found) (moved-same isRetired k n (goingOn a) (Removed t) (stateIn b h n) refl was))
     where
       was : goingOn a ≡ true → k ≡ n → isRetired (stateIn b h n) ≡ false
       was g f =
           let done : doneTold told ≡ true = sym (remove-done (here x m t) r k (doneTold told)) ∙ sym (ap goingOn ans) ∙ g in
-          rw (sym (shown .shows .nodes n), sym f, remove-was r k m′ told e w done) refl
+          rw (sym (shown .shows .nodes n), sym f, remove-was x m m′ t r k told p (rw e at (p .shape .fits t)) w done) refl
 
   retire-balances : (a : Answer) (r k : ℕ) → threadOf x t .point ≡ remove3 r k → a ≡ Ended k → Balances b (Step t) a h n
   retire-balances a r k e ans =
-      let d = doing-at (remove3 r k) e in
+      let d = doing-at b h x shown t (remove3 r k) e in
       rw (ans, d) (at (cases-eq k n))
     where
       at : (k ≡ n) ⊎ (k ≢ n) → cond (eqb k n) 1 0 + cond (isRetired (stateIn b h n)) 1 0 ≡ 0 + cond (isRetired (cond (eqb k n) (RetiredBy t) (stateIn b h n))) 1 0
@@ -203,7 +188,7 @@ module _ (b : ℕ) (h : List Event) (x : Tables) (m : Meaning) (p : Placed x m) 
 
   free-balances : (a : Answer) (now : ℕ) (seen : List ℕ) → threadOf x t .point ≡ reclaim3 now seen → accepted a ≡ true → Balances b (Step t) a h n
   free-balances a now seen e acc =
-      let d = doing-at (reclaim3 now seen) e in
+      let d = doing-at b h x shown t (reclaim3 now seen) e in
       rw (acc, d) (at (cases-lt 0 (names n out)))
     where
       out : List Retired

@@ -1,9 +1,9 @@
 -- At most one thread is inside the lock: the invariant along every history, and the theorem. Assumes nothing.
-use mathlib.Core.Path.{_≡_, refl, sym, ap, subst, _∙_}
-use mathlib.Core.Bool.{Bool, true, false}
+use mathlib.Core.Path.{_≡_, refl, sym, subst, _∙_}
+use mathlib.Core.Bool.{true}
 use mathlib.Core.Logic.{_⊎_, inl, inr, _≢_}
-use mathlib.Core.List.{List, [], _∷_, _++_}
-use Prim.Native.Nat.{ℕ, zero, suc, _+_, _*_, _<_, _≤_}
+use mathlib.Core.List.{List}
+use Prim.Native.Nat.{ℕ, zero, suc, _+_, _<_, _≤_}
 use native.Mathlib.Omega.{arith}
 use Rattle.std.specs.declared.option.Option.{Option}
 use Rattle.std.specs.declared.option.Option.the-variants.{Some, None}
@@ -11,28 +11,22 @@ use Rattle.std.specs.shelf.Lists.{All}
 use Rattle.std.proofs.shelf.Elements.{all-push, all-weaker}
 use Rattle.std.proofs.shelf.Tests.{cases-eq}
 use Rattle.memory.specs.declared.write.Write.{Write}
-use Rattle.memory.specs.Calls.{Sound}
 use Rattle.memory.specs.Meaning.{Meaning}
-use Rattle.protocol.specs.declared.answer.Answer.{Answer}
-use Rattle.protocol.specs.declared.call.Call.{Call}
 use Rattle.protocol.specs.declared.settings.Settings.{Settings}
-use Rattle.protocol.specs.Begin.{begun}
 use Rattle.protocol.specs.Guarantees.{Explains, At-most-one-inside}
-use Rattle.protocol.specs.History.{Event, insideIn}
-use Rattle.protocol.specs.Steps.{Told, after}
-use Rattle.protocol.specs.Tables.{Tables, State, threadOf, firstTables, ownerLock3}
-use Rattle.protocol.specs.Transition.{Trans, refuses, setsUp, ticks, lands, begins, steps, counted, stepped, here}
-use Rattle.protocol.proofs.LockFirst.{set-up-first}
+use Rattle.protocol.specs.History.{Event}
+use Rattle.protocol.specs.Tables.{Tables, State, threadOf, ownerLock3}
+use Rattle.protocol.specs.Transition.{ticks, lands, here}
+use Rattle.protocol.proofs.Invariants.{FirstHolds, CallsKeep, settings-stay, always}
+use Rattle.protocol.proofs.LockFacts.{who-owner}
+use Rattle.protocol.proofs.LockFirst.{first-untouched, set-up-first}
 use Rattle.protocol.proofs.LockPaths.{SmallEcho, lock-path}
-use Rattle.protocol.proofs.LockTimes.{in-time-seen, new-in-time}
-use Rattle.protocol.proofs.LockView.{Sight, LockState, lockState, Same, LandsOne, StoresOne, TakesLock, TicksOn, Still, Goes, Acts, LockPath, rests, acts, node, beginsOwnerLock, beginsOwnerUnlock, beginsOtherLock, beginsOtherUnlock, owner1, owner2in, owner2, owner3, owner4in, owner4, owner5, ownerU1low, ownerU1, ownerU2, ownerU3, ownerU4, other1in, other1, other2, other3, other4, other5, other6past, other6, other7echo, other7, other8in, other8, otherU1, otherU2, otherU3}
+use Rattle.protocol.proofs.LockView.{Sight, LockState, lockState, Same, LandsOne, StoresOne, TakesLock, TicksOn, Acts, LockPath, rests, acts, node, beginsOwnerLock, beginsOwnerUnlock, beginsOtherLock, beginsOtherUnlock, owner1, owner2in, owner2, owner3, owner4in, owner4, owner5, ownerU1low, ownerU1, ownerU2, ownerU3, ownerU4, other1in, other1, other2, other3, other4, other5, other6past, other6, other7echo, other7, other8in, other8, otherU1, otherU2, otherU3}
 use Rattle.protocol.proofs.LockView as view
-use Rattle.protocol.proofs.Locked.{Turns, Owned, OwnerAt, works, locks3}
-use Rattle.protocol.proofs.OwnedActs.{owned-acts}
-use Rattle.protocol.proofs.OwnedFacts.{is-owner, inside-odd}
-use Rattle.protocol.proofs.OwnedKeep.{InTime, owned-same, owned-ticks, owned-lands}
-use Rattle.protocol.proofs.Passed.{set-up-passed}
-use Rattle.protocol.proofs.Placed.{Inv}
+use Rattle.protocol.proofs.Locked.{Turns, Owned}
+use Rattle.protocol.proofs.OwnedActs.{at-3, owned-acts}
+use Rattle.protocol.proofs.OwnedFacts.{inside-odd}
+use Rattle.protocol.proofs.OwnedKeep.{Timely, InTime, owned-same, owned-ticks, owned-lands}
 use Rattle.protocol.proofs.ShownKeeps.{explains-reached}
 use Rattle.protocol.proofs.TurnsActs.{turns-acts}
 use Rattle.protocol.proofs.TurnsKeep.{turns-same, turns-ticks, turns-lands}
@@ -43,27 +37,27 @@ same-times : (v v′ : Sight) → v′ .clock ≡ v .clock → v′ .bound ≡ v
     → All (λ (w : Write). v′ .clock ≤ w .date + v′ .bound) (v′ .writes t)
 same-times v v′ c b t e a = rw (e, c, b) a
 
-times-same : (v v′ : Sight) → Same v v′ → ((t : ℕ) → All (λ (w : Write). v .clock ≤ w .date + v .bound) (v .writes t)) → (t : ℕ) → All (λ (w : Write). v′ .clock ≤ w .date + v′ .bound) (v′ .writes t)
+times-same : (v v′ : Sight) → Same v v′ → Timely v → Timely v′
 times-same v v′ s a t = same-times v v′ (s .clock) (s .bound) t (s .writes t) (a t)
 
-times-takes : (t n : ℕ) (v v′ : Sight) → TakesLock t n v v′ → ((u : ℕ) → All (λ (w : Write). v .clock ≤ w .date + v .bound) (v .writes u)) → (u : ℕ) → All (λ (w : Write). v′ .clock ≤ w .date + v′ .bound) (v′ .writes u)
+times-takes : (t n : ℕ) (v v′ : Sight) → TakesLock t n v v′ → Timely v → Timely v′
 times-takes t n v v′ s a u = same-times v v′ (s .clock) (s .bound) u (s .writes u) (a u)
 
-times-stores : (z : Settings) (t c n : ℕ) (v v′ : Sight) → StoresOne z t c n v v′ → ((u : ℕ) → All (λ (w : Write). v .clock ≤ w .date + v .bound) (v .writes u)) → (u : ℕ) → All (λ (w : Write). v′ .clock ≤ w .date + v′ .bound) (v′ .writes u)
+times-stores : (z : Settings) (t c n : ℕ) (v v′ : Sight) → StoresOne z t c n v v′ → Timely v → Timely v′
 times-stores z t c n v v′ s a u = at (cases-eq u t)
   where
     at : (u ≡ t) ⊎ (u ≢ t) → All (λ (w : Write). v′ .clock ≤ w .date + v′ .bound) (v′ .writes u)
     at (inl e) = rw (e, s .here, s .clock, s .bound) (all-push (λ (w : Write). v .clock ≤ w .date + v .bound) (v .writes t) _ (a t) (omega arith))
     at (inr ne) = same-times v v′ (s .clock) (s .bound) u (s .others u ne) (a u)
 
-times-lands : (z : Settings) (t : ℕ) (v v′ : Sight) → LandsOne z t v v′ → ((u : ℕ) → All (λ (w : Write). v .clock ≤ w .date + v .bound) (v .writes u)) → (u : ℕ) → All (λ (w : Write). v′ .clock ≤ w .date + v′ .bound) (v′ .writes u)
+times-lands : (z : Settings) (t : ℕ) (v v′ : Sight) → LandsOne z t v v′ → Timely v → Timely v′
 times-lands z t v v′ s a u = at (cases-eq u t)
   where
     at : (u ≡ t) ⊎ (u ≢ t) → All (λ (w : Write). v′ .clock ≤ w .date + v′ .bound) (v′ .writes u)
     at (inl e) = rw (e, s .left, s .clock, s .bound) ((rw (s .was) at (a t)) .1)
     at (inr ne) = same-times v v′ (s .clock) (s .bound) u (s .others u ne) (a u)
 
-times-ticks : (v v′ : Sight) → TicksOn v v′ → (u : ℕ) → All (λ (w : Write). v′ .clock ≤ w .date + v′ .bound) (v′ .writes u)
+times-ticks : (v v′ : Sight) → TicksOn v v′ → Timely v′
 times-ticks v v′ s u =
     rw (s .writes u, s .clock, s .bound) (all-weaker (λ (w : Write). v .clock < w .date + v .bound) (λ (w : Write). v .clock + 1 ≤ w .date + v .bound) (λ w h. omega arith) (v .writes u) (s .inTime u))
 
@@ -123,60 +117,31 @@ path-keeps z a′ a (acts t b w path) i =
 -- Along every history.
 
 -- what an echo stores fits into a word while calls are left
-echo-below : {f1 own v : ℕ} {i : Bool} → OwnerAt f1 own (ownerLock3 v) i → 2 * v ≤ f1
-echo-below (works n) = absurd n
-echo-below (locks3 le) = le
-
 small-echo : (x : Tables) (m : Meaning) → LockInv (x .settings) (lockState x m) → x .accepted < 8000 → SmallEcho x
 small-echo x m i few t v e =
-    let owner : t ≡ 0 = is-owner (i .turns) t (ownerLock3 v) e refl in
+    let owner : t ≡ 0 = who-owner t (i .turns) e (omega arith) (omega arith) in
     let here : threadOf x 0 .point ≡ ownerLock3 v = subst (λ (u : ℕ). threadOf x u .point ≡ ownerLock3 v) owner e in
-    let le = echo-below (rw here at (i .owned .at)) in
+    let le = at-3 (rw here at (i .owned .at)) .1 in
     let small = i .turns .few in
     omega arith
 
--- no call changes the settings
-settings-stay : (s s′ : State) {c : Call} {a : Answer} {k : Told} (x x′ : Tables) → Trans s s′ c a k → s .tables ≡ Some x → s′ .tables ≡ Some x′ → x′ .settings ≡ x .settings
-settings-stay s s′ x x′ (refuses f h) e e′ = let g : x′ ≡ x = cc in ap (λ (y : Tables). y .settings) g
-settings-stay s s′ x x′ (setsUp {z} f h g) e e′ = let none = set-up-passed z s f .first in let y : _≡_ {A = ℕ} 0 1 = cc in absurd (omega arith)
-settings-stay s s′ x x′ (ticks {x = y} h f w) e e′ = let j = w .tables in let g : x′ ≡ counted y = cc in let k : y ≡ x = cc in ap (λ (n : Tables). n .settings) g ∙ ap (λ (n : Tables). n .settings) k
-settings-stay s s′ x x′ (lands {x = y} h f w) e e′ = let j = w .tables in let g : x′ ≡ counted y = cc in let k : y ≡ x = cc in ap (λ (n : Tables). n .settings) g ∙ ap (λ (n : Tables). n .settings) k
-settings-stay s s′ x x′ (begins {t} {p = p} {x = y} h n f w) e e′ = let j = w .tables in let g : x′ ≡ counted (begun y t p) = cc in let k : y ≡ x = cc in ap (λ (n : Tables). n .settings) g ∙ ap (λ (n : Tables). n .settings) k
-settings-stay s s′ x x′ (steps {t} {x = y} {k = q} h f w) e e′ =
-    let j = w .tables in
-    let g : x′ ≡ counted (stepped y t (after (here y (s .memory) t) (threadOf y t .point) q)) = cc in
-    let k : y ≡ x = cc in
-    ap (λ (n : Tables). n .settings) g ∙ ap (λ (n : Tables). n .settings) k
+-- the invariant of the lock, over tables and memory
+abbrev LockHolds : Tables → Meaning → Type 0
+LockHolds x m = LockInv (x .settings) (lockState x m)
 
--- the call that sets up
-started : (s s′ : State) {c : Call} {a : Answer} {k : Told} (x′ : Tables) → Trans s s′ c a k → Sound (s .memory) → s .tables ≡ None → s′ .tables ≡ Some x′ → LockInv (x′ .settings) (lockState x′ (s′ .memory))
-started s s′ x′ (refuses f h) sound e e′ = let y : _≡_ {A = ℕ} 0 1 = cc in absurd (omega arith)
-started s s′ x′ (setsUp {z} f h g) sound e e′ =
-    let p = set-up-passed z s f in
-    let first = set-up-first z (s .memory) (p .new) sound (p .range) in
-    let is : firstTables z ≡ x′ = cc in
-    rw h
-    (subst (λ (n : Tables). LockInv (n .settings) (lockState n (s .memory))) is
-    (record { turns = first .0; owned = first .1; times = in-time-seen z (s .memory) (new-in-time (s .memory) sound (p .new)) }))
-started s s′ x′ (ticks h f w) sound e e′ = let y : _≡_ {A = ℕ} 0 1 = cc in absurd (omega arith)
-started s s′ x′ (lands h f w) sound e e′ = let y : _≡_ {A = ℕ} 0 1 = cc in absurd (omega arith)
-started s s′ x′ (begins h n f w) sound e e′ = let y : _≡_ {A = ℕ} 0 1 = cc in absurd (omega arith)
-started s s′ x′ (steps h f w) sound e e′ = let y : _≡_ {A = ℕ} 0 1 = cc in absurd (omega arith)
+lock-starts : FirstHolds LockHolds
+lock-starts z m new sound range =
+    let first = set-up-first z m new sound range in
+    record { turns = first .0; owned = first .1; times = λ t. rw (first-untouched z m new sound .writes t) tt }
+
+lock-stays : CallsKeep LockHolds
+lock-stays s s′ c a k x x′ w inv e e′ i =
+    let path = lock-path s s′ x x′ w inv e e′ (small-echo x (s .memory) i) in
+    subst (λ (z : Settings). LockInv z (lockState x′ (s′ .memory))) (sym (settings-stay s s′ x x′ w e e′))
+    (path-keeps (x .settings) (lockState x′ (s′ .memory)) (lockState x (s .memory)) path i)
 
 pub explains-locked : (h : List Event) (s : State) → Explains h s → (x : Tables) → s .tables ≡ Some x → LockInv (x .settings) (lockState x (s .memory))
-explains-locked [] s (none, sound) x e = let y : _≡_ {A = ℕ} 0 1 = cc in absurd (omega arith)
-explains-locked (v ∷ h) s′ (s, led, w) x′ e′ = at (s .tables) refl (explains-locked h s led)
-  where
-    inv : Inv s
-    inv = explains-reached h s led .inv
-
-    at : (o : Option Tables) → s .tables ≡ o → ((x : Tables) → s .tables ≡ Some x → LockInv (x .settings) (lockState x (s .memory))) → LockInv (x′ .settings) (lockState x′ (s′ .memory))
-    at None e before = started s s′ x′ w (inv .sound) e e′
-    at (Some x) e before =
-        let i = before x e in
-        let path = lock-path s s′ x x′ w inv e e′ (small-echo x (s .memory) i) in
-        subst (λ (z : Settings). LockInv z (lockState x′ (s′ .memory))) (sym (settings-stay s s′ x x′ w e e′))
-        (path-keeps (x .settings) (lockState x′ (s′ .memory)) (lockState x (s .memory)) path i)
+explains-locked = always LockHolds lock-starts lock-stays
 
 -- The theorem.
 

@@ -1,6 +1,6 @@
 -- Runs over a memory that lands nothing by itself are histories, and the eight marked ones answer as marked. Assumes nothing.
-use mathlib.Core.Path.{_≡_, refl, sym, ap, subst, _∙_}
-use mathlib.Core.Bool.{Bool, true, false, not, cond, _||_}
+use mathlib.Core.Path.{_≡_, refl, _∙_}
+use mathlib.Core.Bool.{Bool, true, false, cond}
 use mathlib.Core.List.{List, [], _∷_}
 use Prim.Native.Nat.{ℕ, _≤_}
 use native.Mathlib.Omega.{arith}
@@ -9,7 +9,7 @@ use Rattle.std.specs.declared.option.Option.{Option}
 use Rattle.std.specs.declared.option.Option.the-variants.{Some, None}
 use Rattle.std.proofs.shelf.Tests.{not-true}
 use Rattle.memory.specs.Checks.{firstNo, tickChecks}
-use Rattle.memory.specs.Meaning.{Meaning, cell, withCell, fresh, loaded, stored, landed, exchanged, ticked, due}
+use Rattle.memory.specs.Meaning.{Meaning, cell, withCell, loaded, stored, landed, exchanged, ticked, due}
 use Rattle.memory.proofs.Passing.{tick-passed}
 use Rattle.memory.proofs.Soundness.{fresh-sound}
 use Rattle.memory.proofs.Views.{lands-none, landed-fixed}
@@ -17,14 +17,14 @@ use Rattle.protocol.specs.declared.answer.Refusal.{Refusal}
 use Rattle.protocol.specs.declared.call.Call.{Call}
 use Rattle.protocol.specs.declared.call.Call.the-variants.{SetUp, Tick, Land, Begin, Step}
 use Rattle.protocol.specs.declared.operation.Operation.{Operation}
-use Rattle.protocol.specs.Begin.{named, fits, begun}
+use Rattle.protocol.specs.Begin.{named}
 use Rattle.protocol.specs.Guarantees.{Explains}
 use Rattle.protocol.specs.History.{Event, event}
 use Rattle.protocol.specs.MarkedRuns.{MarkedRuns}
-use Rattle.protocol.specs.Runs.{heldTold, heldAfter, does, decided, performs, beganAs, begunNew, stateAfter, historyAfter}
+use Rattle.protocol.specs.Runs.{heldTold, heldAfter, does, decided, performs, begunNew, stateAfter, historyAfter}
 use Rattle.protocol.specs.Steps.{Request, asksLoad, asksStore, asksExchange, asksClock, asksFence, asksNothing, request}
 use Rattle.protocol.specs.Tables.{Tables, State, threadOf}
-use Rattle.protocol.specs.Transition.{Trans, refuses, setsUp, ticks, lands, begins, steps, Meets, checksOf, first, tickAsks, beginAsks, asked, here}
+use Rattle.protocol.specs.Transition.{Trans, refuses, setsUp, ticks, lands, begins, steps, Meets, checksOf, first, tickAsks, beginAsks, here}
 use Rattle.protocol.proofs.Passed.{all-pass, none-since, rest-passed}
 
 meets : (t : ℕ) (q : Request) (m : Meaning) → Meets t q m (heldAfter t m q) (heldTold t m q)

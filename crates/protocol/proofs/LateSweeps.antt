@@ -12,7 +12,6 @@ use Rattle.std.specs.declared.option.Option.the-variants.{Some, None}
 use Rattle.std.specs.shelf.Lists.{All}
 use Rattle.std.proofs.shelf.Elements.{all-kept-by, all-push, all-weaker}
 use Rattle.std.proofs.shelf.Tests.{cases-bool, cases-eq, eqb-true, eq-eqb, and-parts, false≢true}
-use Rattle.memory.specs.Calls.{Sound}
 use Rattle.memory.specs.Meaning.{Meaning}
 use Rattle.protocol.specs.declared.answer.Answer.{Answer}
 use Rattle.protocol.specs.declared.call.Call.{Call}
@@ -23,13 +22,14 @@ use Rattle.protocol.specs.Guarantees.{Explains, retiredIn, LateAfter, ShortAft
 use Rattle.protocol.specs.History.{Event, event, accepted, answered, doingIn, isReclaim, isRemove, sweepClockIn, loadedIn, listIn, names, settingsIn, cellsOf, lastRetiredIn}
 use Rattle.protocol.specs.Settings.{hazardCells}
 use Rattle.protocol.specs.Steps.{Told, clockTold, keeps, kept, request}
-use Rattle.protocol.specs.Tables.{Point, doingAt, Tables, State, threadOf, nodeOf, idle, protect1, protect2, protect3, protect4, copy1, release1, publish1, remove1, remove2, remove3, reclaim1, reclaim2, reclaim3, ownerLock1, ownerLock2, ownerLock3, ownerLock4, ownerLock5, ownerUnlock1, ownerUnlock2, ownerUnlock3, ownerUnlock4, otherLock1, otherLock2, otherLock3, otherLock4, otherLock5, otherLock6, otherLock7, otherLock8, otherUnlock1, otherUnlock2, otherUnlock3}
+use Rattle.protocol.specs.Tables.{Point, doingAt, Tables, State, threadOf, nodeOf, remove3, reclaim3}
 use Rattle.protocol.specs.Transition.{Meets, here, Steps, Trans, refuses, steps}
+use Rattle.protocol.proofs.BoundStays.{bound-stays}
+use Rattle.protocol.proofs.Counts.{NodeCase, publishes, removes as takes, retires, frees, calm, node-case}
 use Rattle.protocol.proofs.Pigeons.{kept-short, names-none}
 use Rattle.protocol.proofs.Placed.{FitsAt, Placed, Inv}
-use Rattle.protocol.proofs.BoundStays.{bound-stays}
-use Rattle.protocol.proofs.ShownKeeps.{explains-reached}
 use Rattle.protocol.proofs.Shown.{KnownAt, Shown}
+use Rattle.protocol.proofs.ShownKeeps.{explains-reached}
 
 -- a list's dates against that of its thread's last retirement
 abbrev pub Dated : Option ℕ → List Retired → Type 0
@@ -46,40 +46,14 @@ data Third : Point → Type 0 where
   other : {p : Point} → isRemove 3 (doingAt p) ≡ false → isReclaim 3 (doingAt p) ≡ false → Third p
 
 third : (p : Point) → Third p
-third idle = other refl refl
-third (protect1 r h) = other refl refl
-third (protect2 r h n) = other refl refl
-third (protect3 r h n) = other refl refl
-third (protect4 r h) = other refl refl
-third (copy1 a b) = other refl refl
-third (release1 a) = other refl refl
-third (publish1 r n) = other refl refl
-third (remove1 r) = other refl refl
-third (remove2 r n) = other refl refl
-third (remove3 r n) = removes
-third reclaim1 = other refl refl
-third (reclaim2 now seen) = other refl refl
-third (reclaim3 now seen) = sweeps
-third ownerLock1 = other refl refl
-third ownerLock2 = other refl refl
-third (ownerLock3 v) = other refl refl
-third ownerLock4 = other refl refl
-third ownerLock5 = other refl refl
-third ownerUnlock1 = other refl refl
-third ownerUnlock2 = other refl refl
-third ownerUnlock3 = other refl refl
-third ownerUnlock4 = other refl refl
-third otherLock1 = other refl refl
-third otherLock2 = other refl refl
-third (otherLock3 v) = other refl refl
-third (otherLock4 v) = other refl refl
-third (otherLock5 v) = other refl refl
-third (otherLock6 v note) = other refl refl
-third (otherLock7 v note) = other refl refl
-third (otherLock8 v) = other refl refl
-third otherUnlock1 = other refl refl
-third (otherUnlock2 v) = other refl refl
-third otherUnlock3 = other refl refl
+third p = go (node-case p)
+  where
+    go : NodeCase p → Third p
+    go (publishes e) = rw e (other refl refl)
+    go (takes e) = rw e (other refl refl)
+    go (retires e) = rw e removes
+    go (frees e) = rw e sweeps
+    go (calm c) = other (c .noRemove) (c .noReclaim)
 
 dated-kept : (b now : ℕ) (seen : List ℕ) (o : Option ℕ) (l : List Retired) → Dated o l → Dated o (kept b now seen l)
 dated-kept b now seen None l d = rw d refl
@@ -137,7 +111,7 @@ at-most-one : (b : Bool) → cond b 1 0 ≤ 1
 at-most-one true = omega arith
 at-most-one false = omega arith
 
-named-once : (x : Tables) (m : Meaning) (t : ℕ) → Placed x m → (n : ℕ) → names n (threadOf x t .retired) ≤ 1
+pub named-once : (x : Tables) (m : Meaning) (t : ℕ) → Placed x m → (n : ℕ) → names n (threadOf x t .retired) ≤ 1
 named-once x m t p n = at (cases-eq n 0)
   where
     at : (n ≡ 0) ⊎ (n ≡ 0 → ⊥) → names n (threadOf x t .retired) ≤ 1

@@ -1,20 +1,15 @@
 -- Right after set-up the invariant of the lock holds. Assumes nothing.
-use mathlib.Core.Path.{_≡_, refl, ap, _∙_}
+use mathlib.Core.Path.{_≡_, refl}
 use mathlib.Core.Bool.{true, false}
 use mathlib.Core.List.{[]}
-use mathlib.Core.Logic.{_⊎_, inl, inr}
-use Prim.Native.Nat.{ℕ, zero, suc, _<_, _≤_}
+use Prim.Native.Nat.{ℕ}
 use native.Mathlib.Omega.{arith}
-use lib.ListN.{getD, replicate}
-use Rattle.std.proofs.shelf.Lists.{length-replicate, getD-replicate, getD-past}
-use Rattle.std.proofs.shelf.Tests.{cases-lt}
 use Rattle.memory.specs.Calls.{Sound}
-use Rattle.memory.specs.Meaning.{Meaning, queue, cell, isNew}
-use Rattle.memory.proofs.Beginnings.{new-from}
-use Rattle.memory.proofs.Soundness.{fresh-queue}
+use Rattle.memory.specs.Meaning.{Meaning, isNew}
 use Rattle.protocol.specs.declared.settings.Settings.{Settings}
 use Rattle.protocol.specs.Settings.{inRange, lockCell, flag0Cell, flag1Cell}
-use Rattle.protocol.specs.Tables.{Thread, threadOf, idleThread, firstTables, idle, otherLock3}
+use Rattle.protocol.specs.Tables.{Thread, idleThread, firstTables, idle, otherLock3}
+use Rattle.protocol.proofs.FirstState.{replicated, new-empty, new-blank}
 use Rattle.protocol.proofs.LockView.{LockState, lockState}
 use Rattle.protocol.proofs.Locked.{elsewhere, away, echo, works, Holds, slow, last, without, Turns, Owned}
 
@@ -61,26 +56,6 @@ module _ (z : Settings) (a : LockState) (u : Untouched a) where
         alone = λ t pos e. absurd (outside t e);
       }
 
-same-all : {A : Type 0} (n i : ℕ) (d : A) → getD (replicate n d) i d ≡ d
-same-all zero i d = refl
-same-all (suc n) zero d = refl
-same-all (suc n) (suc i) d = same-all n i d
-
--- a new memory: nothing waits, and every cell is 0
-pub new-empty : (m : Meaning) → Sound m → isNew m ≡ true → (t : ℕ) → queue m t ≡ []
-new-empty m s new t = ap (λ (y : Meaning). queue y t) (new-from m s new) ∙ fresh-queue (m .bound) (m .selfLanding) t
-
-pub new-blank : (m : Meaning) → Sound m → isNew m ≡ true → (c : ℕ) → cell m c ≡ 0
-new-blank m s new c = ap (λ (y : Meaning). cell y c) (new-from m s new) ∙ same-all 64 c 0
-
-first-row : (z : Settings) (t : ℕ) → (threadOf (firstTables z) t ≡ idleThread (z .hazards)) ⊎ (threadOf (firstTables z) t ≡ idleThread 0)
-first-row z t = at (cases-lt t (z .threads))
-  where
-    at : (t < z .threads) ⊎ (z .threads ≤ t) → (threadOf (firstTables z) t ≡ idleThread (z .hazards)) ⊎ (threadOf (firstTables z) t ≡ idleThread 0)
-    at (inl lt) = inl (getD-replicate (z .threads) t (idleThread (z .hazards)) (idleThread 0) lt)
-    at (inr le) =
-        inr (getD-past (replicate (z .threads) (idleThread (z .hazards))) t (idleThread 0) (let e = length-replicate (z .threads) (idleThread (z .hazards)) in omega arith))
-
 pub first-untouched : (z : Settings) (m : Meaning) → isNew m ≡ true → Sound m → Untouched (lockState (firstTables z) m)
 first-untouched z m new s =
     record {
@@ -88,8 +63,8 @@ first-untouched z m new s =
       flag0 = new-blank m s new (flag0Cell z);
       flag1 = new-blank m s new (flag1Cell z);
       writes = λ t. rw (new-empty m s new t) refl;
-      point = λ t. elim (first-row z t) [ inl e ↦ ap (λ (r : Thread). r .point) e | inr e ↦ ap (λ (r : Thread). r .point) e ];
-      inside = λ t. elim (first-row z t) [ inl e ↦ ap (λ (r : Thread). r .inside) e | inr e ↦ ap (λ (r : Thread). r .inside) e ];
+      point = λ t. replicated (λ (r : Thread). r .point ≡ idle) (z .threads) t (idleThread (z .hazards)) (idleThread 0) refl refl;
+      inside = λ t. replicated (λ (r : Thread). r .inside ≡ false) (z .threads) t (idleThread (z .hazards)) (idleThread 0) refl refl;
     }
 
 -- The state right after set-up.

@@ -16,7 +16,7 @@ use Rattle.std.proofs.shelf.Tests.{cases-eq, leb-true, leb-false, le-leb, lt-le
 use Rattle.memory.specs.declared.write.Write.{Write}
 use Rattle.memory.specs.Calls.{Sound}
 use Rattle.memory.specs.Landings.{Landing, LandsAs, Lands}
-use Rattle.memory.specs.Meaning.{Meaning, queue, cell, waitingCount, written, newest, newestOr, valueOr, loaded, landed, exchanged, ticked, due}
+use Rattle.memory.specs.Meaning.{Meaning, queue, cell, waitingCount, written, newestOr, valueOr, loaded, landed, exchanged, ticked, due}
 use Rattle.memory.proofs.Dueness.{InTime, due-none}
 use Rattle.memory.proofs.Soundness.{landed-sound}
 use Rattle.memory.proofs.Views.{Popped, Pushed, Put, landed-cases, exchanged-puts, exchanged-none, ticked-moves}

@@ -1,31 +1,24 @@
 -- Every accepted call, seen from the lock, is a path. Assumes nothing.
 use mathlib.Core.Path.{_≡_, refl, sym, ap, subst, _∙_}
 use mathlib.Core.Bool.{Bool, true, false, not}
-use mathlib.Core.List.{List, [], _∷_}
 use Prim.Native.Nat.{ℕ, _*_, _<_}
 use native.Mathlib.Omega.{arith}
-use lib.Dec.{eqb, ltb}
+use lib.Dec.{eqb}
 use lib.ListN.{length}
-use Rattle.std.specs.declared.option.Option.{Option}
 use Rattle.std.specs.declared.option.Option.the-variants.{Some, None}
-use Rattle.std.specs.Options.{isSome}
-use Rattle.std.proofs.shelf.Tests.{and-parts, not-true, eqb-true, eqb-false, ltb-true}
+use Rattle.std.proofs.shelf.Tests.{and-parts, not-true, eqb-true, eqb-false}
 use Rattle.memory.specs.Calls.{Sound, Ticked}
-use Rattle.memory.specs.Checks.{Check, check, firstNo}
+use Rattle.memory.specs.Checks.{firstNo}
 use Rattle.memory.specs.Landings.{Lands}
-use Rattle.memory.specs.Meaning.{Meaning, landed, isNew}
-use Rattle.memory.proofs.Passing.{passed-head, passed-tail}
+use Rattle.memory.specs.Meaning.{Meaning, landed}
 use Rattle.memory.proofs.Soundness.{landed-sound}
 use Rattle.protocol.specs.declared.answer.Answer.{Answer}
-use Rattle.protocol.specs.declared.answer.Refusal.{Refusal}
-use Rattle.protocol.specs.declared.answer.Refusal.the-variants.{AlreadySetUp, SettingsOutOfRange, MemoryNotNew, CallsUsedUp, NoSuchThread, ThreadBusy, BadOperation, GuardOrNode, ListFull, WrongSide}
 use Rattle.protocol.specs.declared.call.Call.{Call}
 use Rattle.protocol.specs.declared.call.Call.the-variants.{SetUp}
 use Rattle.protocol.specs.declared.operation.Operation.{Operation}
 use Rattle.protocol.specs.declared.operation.Operation.the-variants.{Protect, Copy, Release, Publish, Remove, Reclaim, OwnerLock, OwnerUnlock, OtherLock, OtherUnlock}
 use Rattle.protocol.specs.declared.settings.Settings.{Settings}
-use Rattle.protocol.specs.Begin.{named, fits, ready, roomy, sided, startOf, takes, begun}
-use Rattle.protocol.specs.Settings.{inRange}
+use Rattle.protocol.specs.Begin.{named, sided, startOf, takes, begun}
 use Rattle.protocol.specs.Steps.{Told, after, movedTo}
 use Rattle.protocol.specs.Tables.{Point, Tables, State, doingAt, threadOf, idle, protect1, protect2, protect3, protect4, copy1, release1, publish1, remove1, remove2, remove3, reclaim1, reclaim2, reclaim3, ownerLock1, ownerLock2, ownerLock3, ownerLock4, ownerLock5, ownerUnlock1, ownerUnlock2, ownerUnlock3, ownerUnlock4, otherLock1, otherLock2, otherLock3, otherLock4, otherLock5, otherLock6, otherLock7, otherLock8, otherUnlock1, otherUnlock2, otherUnlock3}
 use Rattle.protocol.specs.Transition.{Trans, refuses, setsUp, ticks, lands, begins, steps, isIdle, beginAsks, stepAsks, checksOf, first, here, counted, stepped}

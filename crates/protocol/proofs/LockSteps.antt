@@ -4,7 +4,7 @@ use mathlib.Core.Bool.{Bool, true, false, cond}
 use mathlib.Core.List.{List, [], _∷_}
 use mathlib.Core.Logic.{_≢_}
 use Prim.Native.Nat.{ℕ, _+_, _*_, _%_, _<_, _≤_}
-use native.Mathlib.Nat.{mul-le-mul, mul-comm, mul-add, mod-lt, mod-eq-of-lt}
+use native.Mathlib.Nat.{mod-lt, mod-eq-of-lt}
 use native.Mathlib.Omega.{arith}
 use lib.Dec.{eqb, ltb}
 use lib.ListN.{length}
@@ -22,23 +22,15 @@ use Rattle.protocol.specs.declared.answer.Answer.the-variants.{Ended}
 use Rattle.protocol.specs.declared.answer.Refusal.the-variants.{BufferFull, WritesWaiting}
 use Rattle.protocol.specs.declared.node.NodeState.{NodeState}
 use Rattle.protocol.specs.declared.settings.Settings.{Settings}
-use Rattle.protocol.specs.Settings.{hazardCells, hazardCell, lockCell, flag0Cell, flag1Cell}
+use Rattle.protocol.specs.Settings.{hazardCells, lockCell, flag0Cell, flag1Cell}
 use Rattle.protocol.specs.Steps.{Request, asksLoad, asksStore, asksExchange, asksClock, asksFence, asksNothing, Told, clockTold, valueTold, doneTold, Outcome, lowered, versionOf, waited, word, request, after, stays, ends, entering, afterOwnerLock2, afterOwnerLock4, afterOwnerLock5, afterOwnerUnlock1, afterOtherLock1, afterOtherLock2, afterOtherLock5, afterOtherLock6, afterOtherLock7, afterOtherLock8, afterOtherUnlock1}
 use Rattle.protocol.specs.Tables.{Point, Thread, Tables, threadOf, idleThread, idle, protect1, protect2, protect3, protect4, copy1, release1, publish1, remove1, remove2, remove3, reclaim1, reclaim2, reclaim3, ownerLock1, ownerLock2, ownerLock3, ownerLock4, ownerLock5, ownerUnlock1, ownerUnlock2, ownerUnlock3, ownerUnlock4, otherLock1, otherLock2, otherLock3, otherLock4, otherLock5, otherLock6, otherLock7, otherLock8, otherUnlock1, otherUnlock2, otherUnlock3}
 use Rattle.protocol.specs.Transition.{Meets, requestChecks, here, counted, stepped}
 use Rattle.protocol.proofs.LockMemory.{same-refl, still-refl, lands-then, pushed-aside, pushed-one, exchanged-aside, none-waits, put-lock, loads-flag0, loads-flag1}
 use Rattle.protocol.proofs.LockView.{lockWrites, sightOf, lockState, sees0, sees1, Same, StoresOne, TakesLock, Goes, NodePoint, Acts, node, owner1, owner2in, owner2, owner3, owner4in, owner4, owner5, ownerU1low, ownerU1, ownerU2, ownerU3, ownerU4, other1in, other1, other2, other3, other4, other5, other6past, other6, other7echo, other7, other8in, other8, otherU1, otherU2, otherU3, LockPath, rests, acts}
 use Rattle.protocol.proofs.Placed.{FitsAt, Placed}
-use Rattle.protocol.proofs.PlacedMemory.{Ranges, ranges}
+use Rattle.protocol.proofs.PlacedMemory.{Ranges, ranges, hazard-below}
 use Rattle.protocol.proofs.PlacedRows.{changed}
-
--- the hazard cells stand below the lock's cells
-pub hazard-below : (z : Settings) (t h : ℕ) → t < z .threads → h < z .hazards → hazardCell z t h < lockCell z
-hazard-below z t h lt lh =
-    let a : z .hazards * (t + 1) ≤ z .hazards * z .threads = mul-le-mul (omega arith) (omega arith) in
-    let b = mul-add (z .hazards) t 1 in
-    let c = mul-comm (z .hazards) (z .threads) in
-    omega arith
 
 -- one row is set, and a call is counted
 pub goes : (x : Tables) (t : ℕ) (row : Thread) (ns : List NodeState) (m m′ : Meaning) → t < length (x .threads) → Goes t (lockState x m) (lockState (changed x t row ns) m′) (row .point) (row .inside)

@@ -1,31 +1,25 @@
 -- Every node is in one place. Assumes nothing.
 use mathlib.Core.Path.{_≡_, refl, sym, subst, _∙_}
-use mathlib.Core.Bool.{Bool, true, false, cond}
+use mathlib.Core.Bool.{true, false, cond}
 use mathlib.Core.Logic.{_⊎_, inl, inr}
 use mathlib.Core.List.{List, [], _∷_}
 use Prim.Native.Nat.{ℕ, _<_, _≤_}
 use native.Mathlib.Omega.{arith}
-use lib.Dec.{eqb}
 use Rattle.std.specs.declared.option.Option.{Option}
 use Rattle.std.specs.declared.option.Option.the-variants.{Some, None}
 use Rattle.std.proofs.shelf.Tests.{cases-lt, lt-ltb, le-ltb, eq-eqb, both-ways}
 use Rattle.memory.specs.Meaning.{Meaning, cell}
-use Rattle.protocol.specs.declared.answer.Answer.{Answer}
-use Rattle.protocol.specs.declared.answer.Answer.the-variants.{Ended, Refused}
-use Rattle.protocol.specs.declared.answer.Refusal.{Refusal}
-use Rattle.protocol.specs.declared.call.Call.{Call}
-use Rattle.protocol.specs.declared.call.Call.the-variants.{SetUp, Tick, Land, Begin, Step}
-use Rattle.protocol.specs.declared.node.NodeState.{NodeState}
+use Rattle.protocol.specs.declared.answer.Answer.the-variants.{Ended}
 use Rattle.protocol.specs.declared.node.NodeState.the-variants.{Free, Taken, Published, Removed}
 use Rattle.protocol.specs.declared.operation.Operation.the-variants.{Publish, Remove}
 use Rattle.protocol.specs.Guarantees.{Explains, InOnePlace, retiredIn, Every-node-in-one-place}
-use Rattle.protocol.specs.History.{Event, doingAfter, doingIn, atStep, isRemove, removingIn, listIn, names, stateStep, stateAfter, stateIn, rootIn}
-use Rattle.protocol.specs.Steps.{Told}
-use Rattle.protocol.specs.Tables.{Doing, nothing, busy, doingAt, Tables, State, threadOf, nodeOf, Point, publish1, remove3, reclaim3}
-use Rattle.protocol.specs.Transition.{Trans, refuses, setsUp, ticks, lands, begins, steps}
+use Rattle.protocol.specs.Begin.{isFree}
+use Rattle.protocol.specs.History.{Event, doingIn, isRemove, removingIn, listIn, names, stateStep, stateIn, freeIn, rootIn}
+use Rattle.protocol.specs.Tables.{busy, doingAt, Tables, State, threadOf, nodeOf, Point, publish1, remove3, reclaim3}
 use Rattle.protocol.proofs.BoundStays.{bound-stays}
 use Rattle.protocol.proofs.Counts.{CountsAgree, NodeCase, publishes, removes, retires, frees, calm, node-case, counts-keep}
-use Rattle.protocol.proofs.Placed.{Placed, Inv}
+use Rattle.protocol.proofs.FreeNodes.{free-in-place}
+use Rattle.protocol.proofs.Placed.{Placed}
 use Rattle.protocol.proofs.Roots.{rootOr, RootsShown, roots-keep}
 use Rattle.protocol.proofs.Shown.{Shown, Untouched}
 use Rattle.protocol.proofs.ShownKeeps.{explains-reached}
@@ -94,14 +88,15 @@ module _ (b : ℕ) (h : List Event) (x : Tables) (m : Meaning) (p : Placed x m) 
   place-listed : (t : ℕ) → names n (listIn b h t) ≡ cond (retiredIn (stateIn b h n) t) 1 0
   place-listed t = rw (sym (shown .shows .lists t), sym (shown .shows .nodes n)) (p .listed n t real)
 
-  pub in-one-place : CountsAgree b h n → InOnePlace b h n
-  in-one-place k =
-      record { taken = place-taken; published = place-published; rooted = place-rooted; removed = place-removed; listed = place-listed; counts = k }
+  pub in-one-place : freeIn b h n ≡ isFree (stateIn b h n) → CountsAgree b h n → InOnePlace b h n
+  in-one-place f k =
+      record { free = f; taken = place-taken; published = place-published; rooted = place-rooted; removed = place-removed; listed = place-listed; counts = k }
 
 -- Before set-up everything is as at first.
-unset-one-place : (b : ℕ) (h : List Event) → Untouched h → ((r : ℕ) → rootIn h r ≡ 0) → (n : ℕ) → 0 < n → CountsAgree b h n → InOnePlace b h n
-unset-one-place b h k roots n real c =
+unset-one-place : (b : ℕ) (h : List Event) → Untouched h → ((r : ℕ) → rootIn h r ≡ 0) → (n : ℕ) → 0 < n → freeIn b h n ≡ isFree (stateIn b h n) → CountsAgree b h n → InOnePlace b h n
+unset-one-place b h k roots n real f c =
     record {
+      free = f;
       taken = λ t r e. let d = k .doing t in let z : _≡_ {A = ℕ} 0 1 = cc in absurd (omega arith);
       published = λ r e. let d = roots r in absurd (omega arith);
       rooted = λ r e. let d = k .nodes b n in let z : _≡_ {A = ℕ} 0 1 = cc in absurd (omega arith);
@@ -129,7 +124,7 @@ pub every-node-in-one-place : Every-node-in-one-place
 every-node-in-one-place h s w n real = go (s .tables) refl
   where
     go : (o : Option Tables) → s .tables ≡ o → InOnePlace (s .memory .bound) h n
-    go None e = unset-one-place (s .memory .bound) h (explains-reached h s w .before e) (λ r. rw e at (explains-roots h s w r)) n real (explains-counts h s w n real)
+    go None e = unset-one-place (s .memory .bound) h (explains-reached h s w .before e) (λ r. rw e at (explains-roots h s w r)) n real (free-in-place h s w n) (explains-counts h s w n real)
     go (Some x) e =
         let now = explains-reached h s w in
-        in-one-place (s .memory .bound) h x (s .memory) (now .inv .placed x e) (now .shown x e) (λ r. rw e at (explains-roots h s w r)) n real (explains-counts h s w n real)
+        in-one-place (s .memory .bound) h x (s .memory) (now .inv .placed x e) (now .shown x e) (λ r. rw e at (explains-roots h s w r)) n real (free-in-place h s w n) (explains-counts h s w n real)

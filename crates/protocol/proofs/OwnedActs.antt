@@ -12,9 +12,10 @@ use Rattle.memory.specs.declared.write.Write.{Write}
 use Rattle.protocol.specs.declared.settings.Settings.{Settings}
 use Rattle.protocol.specs.Settings.{lockCell, flag0Cell}
 use Rattle.protocol.specs.Tables.{Point, idle, ownerLock1, ownerLock2, ownerLock3, ownerLock4, ownerLock5, ownerUnlock1, ownerUnlock2, ownerUnlock3, ownerUnlock4, otherLock1, otherLock2, otherLock3, otherLock4, otherLock5, otherLock6, otherLock7, otherLock8, otherUnlock1, otherUnlock2, otherUnlock3}
+use Rattle.protocol.proofs.LockFacts.{side, node-side, Waits, other-waits, who-owner, who-other, sees-own}
 use Rattle.protocol.proofs.LockView.{LockState, NodePoint, sees0, sees1, Same, StoresOne, TakesLock, Goes, Acts, node, beginsOwnerLock, beginsOwnerUnlock, beginsOtherLock, beginsOtherUnlock, owner1, owner2in, owner2, owner3, owner4in, owner4, owner5, ownerU1low, ownerU1, ownerU2, ownerU3, ownerU4, other1in, other1, other2, other3, other4, other5, other6past, other6, other7echo, other7, other8in, other8, otherU1, otherU2, otherU3}
 use Rattle.protocol.proofs.Locked.{RaisedAt, raised4, raised5, raised6, raised7, raised8, Flag0, up, echo, OwnerWrite, flags, releases, OwnerAt, locks1, locks2, locks3, locks4, locks5, unlocks1, unlocks2, unlocks3, unlocks4, slow, OwnerLock, without, has, gives, InLoop, loop3, loop4, loop5, NoEcho, TimedAt, Turns, Owned}
-use Rattle.protocol.proofs.OwnedFacts.{side, node-side, unwaiting-timed, inside-odd, Waits, other-waits, is-owner, is-other, sees-stored, flag0-odd, flag0-even, own-flag0, own-flag1, waited-landed, echoed-loops}
+use Rattle.protocol.proofs.OwnedFacts.{unwaiting-timed, inside-odd, flag0-odd, flag0-even, own-flag0, own-flag1, waited-landed, echoed-loops}
 use Rattle.protocol.proofs.OwnedKeep.{InTime, Untouched, same-untouched, takes-untouched, stores-untouched, owned-moves}
 
 -- Another thread moves.
@@ -32,7 +33,7 @@ other-goes z t a a′ p′ i′ h s g timed alone o =
     outside = g .insides 0 n
 
 -- to a point where it does not wait for the owner
-other-plain : (z : Settings) (t : ℕ) (a a′ : LockState) (p′ : Point) → 1 ≤ t → Untouched (a .sight) (a′ .sight) → Goes t a a′ p′ (a .inside t) → side p′ ≢ 3 → Owned z a → Owned z a′
+other-plain : (z : Settings) (t : ℕ) (a a′ : LockState) (p′ : Point) → 1 ≤ t → Untouched (a .sight) (a′ .sight) → Goes t a a′ p′ (a .inside t) → side p′ ≢ 5 → Owned z a → Owned z a′
 other-plain z t a a′ p′ h s g n o = other-goes z t a a′ p′ (a .inside t) h s g (λ i e. unwaiting-timed z (a .sight .flag0) (a .sight .writes 0) p′ n) (o .alone t h) o
 
 -- to a point where it waits
@@ -96,7 +97,7 @@ at-2 : {f1 own : ℕ} {i : Bool} → OwnerAt f1 own ownerLock2 i → (i ≡ fals
 at-2 (OwnerAt.works n) = absurd n
 at-2 (locks2 e) = (refl, e)
 
-at-3 : {f1 own v : ℕ} {i : Bool} → OwnerAt f1 own (ownerLock3 v) i → (i ≡ false) × (2 * v ≤ f1)
+pub at-3 : {f1 own v : ℕ} {i : Bool} → OwnerAt f1 own (ownerLock3 v) i → (i ≡ false) × (2 * v ≤ f1)
 at-3 (OwnerAt.works n) = absurd n
 at-3 (locks3 h) = (refl, h)
 
@@ -129,7 +130,7 @@ module _ (z : Settings) (a a′ : LockState) (turns : Turns z a) (o : Owned z a)
   flag0-seen = own-flag0 z (a .sight .flag1) (a .sight .flag0) (a .sight .writes 0) (o .writes) (o .flag0)
 
   flag0-stored : (n : ℕ) → StoresOne z 0 (flag0Cell z) n (a .sight) (a′ .sight) → sees0 z (a′ .sight) 0 ≡ n
-  flag0-stored n s = rw (s .here, s .flag0) (sees-stored (a .sight .writes 0) (record { cell = flag0Cell z; value = n; date = a .sight .clock }) (flag0Cell z) (a .sight .flag0) refl)
+  flag0-stored n s = sees-own z 0 n (a .sight) (a′ .sight) s
 
   -- a step from and to the operations on nodes
   owner-node : {p p′ : Point} → a .point 0 ≡ p → NodePoint p → NodePoint p′ → Goes 0 a a′ p′ (a .inside 0) → Same (a .sight) (a′ .sight) → Owned z a′
@@ -203,7 +204,7 @@ module _ (z : Settings) (t : ℕ) (a a′ : LockState) (turns : Turns z a) (o : 
   -- it notes the clock: no waiting write has a later date
   other-notes : {v : ℕ} → a .point t ≡ otherLock5 v → Goes t a a′ (otherLock6 v (a .sight .clock)) (a .inside t) → Same (a .sight) (a′ .sight) → Owned z a′
   other-notes {v} e g s =
-      other-timed z t a a′ (otherLock6 v (a .sight .clock)) (is-other o t (otherLock5 v) e (omega arith)) s g
+      other-timed z t a a′ (otherLock6 v (a .sight .clock)) (who-other t o e (omega arith)) s g
       (λ i own. all-weaker (λ (w : Write). w .date ≤ a .sight .clock) (λ (w : Write). w .cell ≡ flag0Cell z → w .date ≤ a .sight .clock) (λ w h c. h) (a .sight .writes 0) (o .dates)) o
 
   -- it has waited
@@ -211,32 +212,32 @@ module _ (z : Settings) (t : ℕ) (a a′ : LockState) (turns : Turns z a) (o : 
   other-waited {v} {note} inTime e past g s = other-timed z t a a′ (otherLock8 v) h s g (λ i own. waited-landed z (a .sight) note past (rw e at (o .timed t h i own)) (inTime 0) own) o
     where
       h : 1 ≤ t
-      h = is-other o t (otherLock6 v note) e (omega arith)
+      h = who-other t o e (omega arith)
 
   other-looks : {v note : ℕ} → a .point t ≡ otherLock6 v note → Goes t a a′ (otherLock7 v note) (a .inside t) → Same (a .sight) (a′ .sight) → Owned z a′
   other-looks {v} {note} e g s = other-timed z t a a′ (otherLock7 v note) h s g (λ i own. rw e at (o .timed t h i own)) o
     where
       h : 1 ≤ t
-      h = is-other o t (otherLock6 v note) e (omega arith)
+      h = who-other t o e (omega arith)
 
   other-again : {v note : ℕ} → a .point t ≡ otherLock7 v note → Goes t a a′ (otherLock6 v note) (a .inside t) → Same (a .sight) (a′ .sight) → Owned z a′
   other-again {v} {note} e g s = other-timed z t a a′ (otherLock6 v note) h s g (λ i own. rw e at (o .timed t h i own)) o
     where
       h : 1 ≤ t
-      h = is-other o t (otherLock7 v note) e (omega arith)
+      h = who-other t o e (omega arith)
 
   other-stays : {v : ℕ} → a .point t ≡ otherLock8 v → Goes t a a′ (otherLock8 v) (a .inside t) → Same (a .sight) (a′ .sight) → Owned z a′
   other-stays {v} e g s = other-timed z t a a′ (otherLock8 v) h s g (λ i own. rw e at (o .timed t h i own)) o
     where
       h : 1 ≤ t
-      h = is-other o t (otherLock8 v) e (omega arith)
+      h = who-other t o e (omega arith)
 
   -- the owner has echoed its version
   other-echoed : {v note : ℕ} → a .point t ≡ otherLock7 v note → sees0 z (a .sight) t / 2 ≡ v → Goes t a a′ (otherLock8 v) (a .inside t) → Same (a .sight) (a′ .sight) → Owned z a′
   other-echoed {v} {note} e seen g s = other-timed z t a a′ (otherLock8 v) h s g (λ i own. absurd (both-ways (a .inside 0) (echoed-loops z a (w .version) (w .flag1) version o .1) i)) o
     where
       h : 1 ≤ t
-      h = is-other o t (otherLock7 v note) e (omega arith)
+      h = who-other t o e (omega arith)
 
       w : Waits (a .sight .lock) (a .sight .flag1) t (a .point t) (a .sight .writes t)
       w = other-waits (turns .others t h) (ap side e)
@@ -256,7 +257,7 @@ module _ (z : Settings) (t : ℕ) (a a′ : LockState) (turns : Turns z a) (o : 
   other-enters {v} e low g s = other-goes z t a a′ idle true h (same-untouched s) g (λ i own. tt) (λ i. outside (cases-bool (a .inside 0))) o
     where
       h : 1 ≤ t
-      h = is-other o t (otherLock8 v) e (omega arith)
+      h = who-other t o e (omega arith)
 
       w : Waits (a .sight .lock) (a .sight .flag1) t (a .point t) (a .sight .writes t)
       w = other-waits (turns .others t h) (ap side e)
@@ -300,23 +301,23 @@ owned-acts z t a a′ (beginsOwnerLock n e i g s) inTime turns o = owner-begins-
 owned-acts z t a a′ (beginsOwnerUnlock n e i g s) inTime turns o = owner-begins-unlock z a a′ turns o (rw n at e) (rw n at i) (rw n at g) s
 owned-acts z t a a′ (beginsOtherLock h e i g s) inTime turns o = other-plain z t a a′ otherLock1 h (same-untouched s) (rw i g) (λ q. omega arith) o
 owned-acts z t a a′ (beginsOtherUnlock h e i g s) inTime turns o = other-plain z t a a′ otherUnlock1 h (same-untouched s) (rw i g) (λ q. omega arith) o
-owned-acts z t a a′ (owner1 e g s) inTime turns o = let n = is-owner turns t ownerLock1 e refl in owner-1 z a a′ turns o (rw n at e) (rw n at g) (rw n at s)
-owned-acts z t a a′ (owner2in e low g s) inTime turns o = let n = is-owner turns t ownerLock2 e refl in owner-2in z a a′ turns o (rw n at e) (rw n at low) (rw n at g) s
-owned-acts z t a a′ (owner2 e odd g s) inTime turns o = let n = is-owner turns t ownerLock2 e refl in owner-loops z a a′ turns o (at-2 (at-point z a a′ turns o (rw n at e)) .0) (rw n at g) s
-owned-acts z t a a′ (owner3 {v} e lt g s) inTime turns o = let n = is-owner turns t (ownerLock3 v) e refl in owner-3 z a a′ turns o (rw n at e) (rw n at g) (rw n at s)
-owned-acts z t a a′ (owner4in e g s) inTime turns o = let n = is-owner turns t ownerLock4 e refl in owner-4in z a a′ turns o (rw n at e) (rw n at g) (rw n at s)
-owned-acts z t a a′ (owner4 e taken none g s) inTime turns o = let n = is-owner turns t ownerLock4 e refl in owner-4 z a a′ turns o (rw n at e) (rw n at g) s
-owned-acts z t a a′ (owner5 e g s) inTime turns o = let n = is-owner turns t ownerLock5 e refl in owner-loops z a a′ turns o (at-5 (at-point z a a′ turns o (rw n at e))) (rw n at g) s
-owned-acts z t a a′ (ownerU1low e even g s) inTime turns o = let n = is-owner turns t ownerUnlock1 e refl in owner-unlock1-low z a a′ turns o (rw n at e) (rw n at even) (rw n at g) s
-owned-acts z t a a′ (ownerU1 e odd g s) inTime turns o = let n = is-owner turns t ownerUnlock1 e refl in owner-unlock1 z a a′ turns o (rw n at e) (rw n at odd) (rw n at g) s
-owned-acts z t a a′ (ownerU2 e g s) inTime turns o = let n = is-owner turns t ownerUnlock2 e refl in owner-unlock2 z a a′ turns o (rw n at e) (rw n at g) (rw n at s)
-owned-acts z t a a′ (ownerU3 e g s) inTime turns o = let n = is-owner turns t ownerUnlock3 e refl in owner-unlock3 z a a′ turns o (rw n at e) (rw n at g) (rw n at s)
-owned-acts z t a a′ (ownerU4 e g s) inTime turns o = let n = is-owner turns t ownerUnlock4 e refl in owner-unlock4 z a a′ turns o (rw n at e) (rw n at g) (rw n at s)
-owned-acts z t a a′ (other1in e g s) inTime turns o = let h = is-other o t otherLock1 e (omega arith) in other-plain z t a a′ otherLock2 h (takes-untouched s) g (λ q. omega arith) o
-owned-acts z t a a′ (other1 e g s) inTime turns o = let h = is-other o t otherLock1 e (omega arith) in other-plain z t a a′ otherLock1 h (same-untouched s) g (λ q. omega arith) o
-owned-acts z t a a′ (other2 e g s) inTime turns o = let h = is-other o t otherLock2 e (omega arith) in other-plain z t a a′ (otherLock3 (sees1 z (a .sight) t / 2 + 1)) h (same-untouched s) g (λ q. omega arith) o
-owned-acts z t a a′ (other3 {v} e few {n} m g s) inTime turns o = let h = is-other o t (otherLock3 v) e (omega arith) in other-plain z t a a′ (otherLock4 v) h (stores-untouched h s) g (λ q. omega arith) o
-owned-acts z t a a′ (other4 {v} e none g s) inTime turns o = other-timed z t a a′ (otherLock5 v) (is-other o t (otherLock4 v) e (omega arith)) s g (λ i own. tt) o
+owned-acts z t a a′ (owner1 e g s) inTime turns o = let n = who-owner t turns e (omega arith) (omega arith) in owner-1 z a a′ turns o (rw n at e) (rw n at g) (rw n at s)
+owned-acts z t a a′ (owner2in e low g s) inTime turns o = let n = who-owner t turns e (omega arith) (omega arith) in owner-2in z a a′ turns o (rw n at e) (rw n at low) (rw n at g) s
+owned-acts z t a a′ (owner2 e odd g s) inTime turns o = let n = who-owner t turns e (omega arith) (omega arith) in owner-loops z a a′ turns o (at-2 (at-point z a a′ turns o (rw n at e)) .0) (rw n at g) s
+owned-acts z t a a′ (owner3 {v} e lt g s) inTime turns o = let n = who-owner t turns e (omega arith) (omega arith) in owner-3 z a a′ turns o (rw n at e) (rw n at g) (rw n at s)
+owned-acts z t a a′ (owner4in e g s) inTime turns o = let n = who-owner t turns e (omega arith) (omega arith) in owner-4in z a a′ turns o (rw n at e) (rw n at g) (rw n at s)
+owned-acts z t a a′ (owner4 e taken none g s) inTime turns o = let n = who-owner t turns e (omega arith) (omega arith) in owner-4 z a a′ turns o (rw n at e) (rw n at g) s
+owned-acts z t a a′ (owner5 e g s) inTime turns o = let n = who-owner t turns e (omega arith) (omega arith) in owner-loops z a a′ turns o (at-5 (at-point z a a′ turns o (rw n at e))) (rw n at g) s
+owned-acts z t a a′ (ownerU1low e even g s) inTime turns o = let n = who-owner t turns e (omega arith) (omega arith) in owner-unlock1-low z a a′ turns o (rw n at e) (rw n at even) (rw n at g) s
+owned-acts z t a a′ (ownerU1 e odd g s) inTime turns o = let n = who-owner t turns e (omega arith) (omega arith) in owner-unlock1 z a a′ turns o (rw n at e) (rw n at odd) (rw n at g) s
+owned-acts z t a a′ (ownerU2 e g s) inTime turns o = let n = who-owner t turns e (omega arith) (omega arith) in owner-unlock2 z a a′ turns o (rw n at e) (rw n at g) (rw n at s)
+owned-acts z t a a′ (ownerU3 e g s) inTime turns o = let n = who-owner t turns e (omega arith) (omega arith) in owner-unlock3 z a a′ turns o (rw n at e) (rw n at g) (rw n at s)
+owned-acts z t a a′ (ownerU4 e g s) inTime turns o = let n = who-owner t turns e (omega arith) (omega arith) in owner-unlock4 z a a′ turns o (rw n at e) (rw n at g) (rw n at s)
+owned-acts z t a a′ (other1in e g s) inTime turns o = let h = who-other t o e (omega arith) in other-plain z t a a′ otherLock2 h (takes-untouched s) g (λ q. omega arith) o
+owned-acts z t a a′ (other1 e g s) inTime turns o = let h = who-other t o e (omega arith) in other-plain z t a a′ otherLock1 h (same-untouched s) g (λ q. omega arith) o
+owned-acts z t a a′ (other2 e g s) inTime turns o = let h = who-other t o e (omega arith) in other-plain z t a a′ (otherLock3 (sees1 z (a .sight) t / 2 + 1)) h (same-untouched s) g (λ q. omega arith) o
+owned-acts z t a a′ (other3 {v} e few {n} m g s) inTime turns o = let h = who-other t o e (omega arith) in other-plain z t a a′ (otherLock4 v) h (stores-untouched h s) g (λ q. omega arith) o
+owned-acts z t a a′ (other4 {v} e none g s) inTime turns o = other-timed z t a a′ (otherLock5 v) (who-other t o e (omega arith)) s g (λ i own. tt) o
 owned-acts z t a a′ (other5 e g s) inTime turns o = other-notes z t a a′ turns o e g s
 owned-acts z t a a′ (other6past e past g s) inTime turns o = other-waited z t a a′ turns o inTime e past g s
 owned-acts z t a a′ (other6 e g s) inTime turns o = other-looks z t a a′ turns o e g s
@@ -324,7 +325,7 @@ owned-acts z t a a′ (other7echo e seen g s) inTime turns o = other-echoed z t 
 owned-acts z t a a′ (other7 e g s) inTime turns o = other-again z t a a′ turns o e g s
 owned-acts z t a a′ (other8in e low g s) inTime turns o = other-enters z t a a′ turns o e low g s
 owned-acts z t a a′ (other8 e g s) inTime turns o = other-stays z t a a′ turns o e g s
-owned-acts z t a a′ (otherU1 e g s) inTime turns o = let h = is-other o t otherUnlock1 e (omega arith) in other-plain z t a a′ (otherUnlock2 (sees1 z (a .sight) t / 2)) h (same-untouched s) g (λ q. omega arith) o
+owned-acts z t a a′ (otherU1 e g s) inTime turns o = let h = who-other t o e (omega arith) in other-plain z t a a′ (otherUnlock2 (sees1 z (a .sight) t / 2)) h (same-untouched s) g (λ q. omega arith) o
 owned-acts z t a a′ (otherU2 {v} e few {n} m g s) inTime turns o =
-    let h = is-other o t (otherUnlock2 v) e (omega arith) in other-goes z t a a′ otherUnlock3 false h (stores-untouched h s) g (λ i own. tt) (λ i. absurd (both-ways false refl i)) o
-owned-acts z t a a′ (otherU3 e g s) inTime turns o = let h = is-other o t otherUnlock3 e (omega arith) in other-plain z t a a′ idle h (stores-untouched h s) g (λ q. omega arith) o
+    let h = who-other t o e (omega arith) in other-goes z t a a′ otherUnlock3 false h (stores-untouched h s) g (λ i own. tt) (λ i. absurd (both-ways false refl i)) o
+owned-acts z t a a′ (otherU3 e g s) inTime turns o = let h = who-other t o e (omega arith) in other-plain z t a a′ idle h (stores-untouched h s) g (λ q. omega arith) o

@@ -1,185 +1,87 @@
--- Facts on points, on what the owner sees in flag0, and on the two ways in which another thread's wait ends. Assumes nothing.
+-- Which points are timed, what the owner sees in flag0, and the two ways in which another thread's wait ends. Assumes nothing.
 use mathlib.Core.Bool.{Bool, true, false, cond}
-use mathlib.Core.List.{List, [], _∷_, _++_}
-use mathlib.Core.Logic.{_⊎_, inl, inr, _≢_}
+use mathlib.Core.List.{List, [], _∷_}
+use mathlib.Core.Logic.{inl, inr, _≢_}
 use mathlib.Core.Path.{_≡_, refl, sym, ap, _∙_}
 use Prim.Native.Nat.{ℕ, _+_, _*_, _/_, _%_, _<_, _≤_}
 use native.Mathlib.Omega.{arith}
 use lib.Dec.{eqb}
-use Rattle.std.specs.declared.option.Option.{Option}
-use Rattle.std.specs.declared.option.Option.the-variants.{Some, None}
 use Rattle.std.specs.shelf.Lists.{All}
 use Rattle.std.proofs.shelf.Elements.{all-weaker}
-use Rattle.std.proofs.shelf.Tests.{cases-eq, eqb-true, eq-eqb, ne-eqb, cond-true, cond-false, cond-both}
+use Rattle.std.proofs.shelf.Tests.{eqb-true, cond-both}
 use Rattle.memory.specs.declared.write.Write.{Write}
-use Rattle.memory.specs.Meaning.{newest, newestOr, valueOr}
+use Rattle.memory.specs.Meaning.{newest, valueOr}
 use Rattle.protocol.specs.declared.settings.Settings.{Settings}
 use Rattle.protocol.specs.Settings.{lockCell, flag0Cell, flag1Cell}
 use Rattle.protocol.specs.Tables.{Point, idle, protect1, protect2, protect3, protect4, copy1, release1, publish1, remove1, remove2, remove3, reclaim1, reclaim2, reclaim3, ownerLock1, ownerLock2, ownerLock3, ownerLock4, ownerLock5, ownerUnlock1, ownerUnlock2, ownerUnlock3, ownerUnlock4, otherLock1, otherLock2, otherLock3, otherLock4, otherLock5, otherLock6, otherLock7, otherLock8, otherUnlock1, otherUnlock2, otherUnlock3}
+use Rattle.protocol.proofs.LockFacts.{side, seesFrom, sees-from, sees-none}
 use Rattle.protocol.proofs.LockView.{Sight, LockState, NodePoint, sees0}
-use Rattle.protocol.proofs.Locked.{releaseWrite, flag1Write, RaisedAt, raised4, raised5, raised6, raised7, raised8, InsideAt, leaves1, leaves2, Away, elsewhere, asks, Other, away, enters2, enters3, raising, raised, within, lowering, lowered, releasing2, releasing, Flag0, up, echo, OwnerWrite, flags, releases, OwnerAt, locks1, locks2, locks3, locks4, locks5, unlocks1, unlocks2, unlocks3, unlocks4, InLoop, loop3, loop4, loop5, TimedAt, Turns, Owned}
+use Rattle.protocol.proofs.Locked.{releaseWrite, flag1Write, Other, away, enters2, enters3, raising, raised, within, lowering, lowered, releasing2, releasing, Flag0, up, echo, OwnerWrite, flags, releases, OwnerAt, locks1, locks2, locks3, locks4, locks5, unlocks1, unlocks2, unlocks3, unlocks4, InLoop, loop3, loop4, loop5, TimedAt, Owned}
 
--- whose point it is: 0 of the operations on nodes, 1 the owner's, 2 another's, and 3 another's that waits for the owner
-abbrev pub side : Point → ℕ
-side idle = 0
-side (protect1 r h) = 0
-side (protect2 r h n) = 0
-side (protect3 r h n) = 0
-side (protect4 r h) = 0
-side (copy1 a b) = 0
-side (release1 a) = 0
-side (publish1 r n) = 0
-side (remove1 r) = 0
-side (remove2 r n) = 0
-side (remove3 r n) = 0
-side reclaim1 = 0
-side (reclaim2 now seen) = 0
-side (reclaim3 now seen) = 0
-side ownerLock1 = 1
-side ownerLock2 = 1
-side (ownerLock3 v) = 1
-side ownerLock4 = 1
-side ownerLock5 = 1
-side ownerUnlock1 = 1
-side ownerUnlock2 = 1
-side ownerUnlock3 = 1
-side ownerUnlock4 = 1
-side otherLock1 = 2
-side otherLock2 = 2
-side (otherLock3 v) = 2
-side (otherLock4 v) = 2
-side (otherLock5 v) = 3
-side (otherLock6 v note) = 3
-side (otherLock7 v note) = 3
-side (otherLock8 v) = 3
-side otherUnlock1 = 2
-side (otherUnlock2 v) = 2
-side otherUnlock3 = 2
+-- the points at which a thread that waits for the owner is timed
+data TimedCase : Point → Type 0 where
+  noted6 : {v note : ℕ} → TimedCase (otherLock6 v note)
+  noted7 : {v note : ℕ} → TimedCase (otherLock7 v note)
+  waited8 : {v : ℕ} → TimedCase (otherLock8 v)
+  untimed : {p : Point} → ((z : Settings) (f0 : ℕ) (ws : List Write) → TimedAt z f0 ws p) → TimedCase p
 
-pub node-side : (p : Point) → NodePoint p → side p ≡ 0
-node-side idle n = refl
-node-side (protect1 r h) n = refl
-node-side (protect2 r h k) n = refl
-node-side (protect3 r h k) n = refl
-node-side (protect4 r h) n = refl
-node-side (copy1 a b) n = refl
-node-side (release1 a) n = refl
-node-side (publish1 r k) n = refl
-node-side (remove1 r) n = refl
-node-side (remove2 r k) n = refl
-node-side (remove3 r k) n = refl
-node-side reclaim1 n = refl
-node-side (reclaim2 now seen) n = refl
-node-side (reclaim3 now seen) n = refl
-node-side ownerLock1 n = absurd n
-node-side ownerLock2 n = absurd n
-node-side (ownerLock3 v) n = absurd n
-node-side ownerLock4 n = absurd n
-node-side ownerLock5 n = absurd n
-node-side ownerUnlock1 n = absurd n
-node-side ownerUnlock2 n = absurd n
-node-side ownerUnlock3 n = absurd n
-node-side ownerUnlock4 n = absurd n
-node-side otherLock1 n = absurd n
-node-side otherLock2 n = absurd n
-node-side (otherLock3 v) n = absurd n
-node-side (otherLock4 v) n = absurd n
-node-side (otherLock5 v) n = absurd n
-node-side (otherLock6 v note) n = absurd n
-node-side (otherLock7 v note) n = absurd n
-node-side (otherLock8 v) n = absurd n
-node-side otherUnlock1 n = absurd n
-node-side (otherUnlock2 v) n = absurd n
-node-side otherUnlock3 n = absurd n
+timed-case : (p : Point) → TimedCase p
+timed-case idle = untimed (λ z f0 ws. tt)
+timed-case (protect1 r h) = untimed (λ z f0 ws. tt)
+timed-case (protect2 r h n) = untimed (λ z f0 ws. tt)
+timed-case (protect3 r h n) = untimed (λ z f0 ws. tt)
+timed-case (protect4 r h) = untimed (λ z f0 ws. tt)
+timed-case (copy1 a b) = untimed (λ z f0 ws. tt)
+timed-case (release1 a) = untimed (λ z f0 ws. tt)
+timed-case (publish1 r n) = untimed (λ z f0 ws. tt)
+timed-case (remove1 r) = untimed (λ z f0 ws. tt)
+timed-case (remove2 r n) = untimed (λ z f0 ws. tt)
+timed-case (remove3 r n) = untimed (λ z f0 ws. tt)
+timed-case reclaim1 = untimed (λ z f0 ws. tt)
+timed-case (reclaim2 now seen) = untimed (λ z f0 ws. tt)
+timed-case (reclaim3 now seen) = untimed (λ z f0 ws. tt)
+timed-case ownerLock1 = untimed (λ z f0 ws. tt)
+timed-case ownerLock2 = untimed (λ z f0 ws. tt)
+timed-case (ownerLock3 v) = untimed (λ z f0 ws. tt)
+timed-case ownerLock4 = untimed (λ z f0 ws. tt)
+timed-case ownerLock5 = untimed (λ z f0 ws. tt)
+timed-case ownerUnlock1 = untimed (λ z f0 ws. tt)
+timed-case ownerUnlock2 = untimed (λ z f0 ws. tt)
+timed-case ownerUnlock3 = untimed (λ z f0 ws. tt)
+timed-case ownerUnlock4 = untimed (λ z f0 ws. tt)
+timed-case otherLock1 = untimed (λ z f0 ws. tt)
+timed-case otherLock2 = untimed (λ z f0 ws. tt)
+timed-case (otherLock3 v) = untimed (λ z f0 ws. tt)
+timed-case (otherLock4 v) = untimed (λ z f0 ws. tt)
+timed-case (otherLock5 v) = untimed (λ z f0 ws. tt)
+timed-case (otherLock6 v note) = noted6
+timed-case (otherLock7 v note) = noted7
+timed-case (otherLock8 v) = waited8
+timed-case otherUnlock1 = untimed (λ z f0 ws. tt)
+timed-case (otherUnlock2 v) = untimed (λ z f0 ws. tt)
+timed-case otherUnlock3 = untimed (λ z f0 ws. tt)
 
 -- a thread that does not wait for the owner is not timed
-pub unwaiting-timed : (z : Settings) (f0 : ℕ) (ws : List Write) (p : Point) → side p ≢ 3 → TimedAt z f0 ws p
-unwaiting-timed z f0 ws idle n = tt
-unwaiting-timed z f0 ws (protect1 r h) n = tt
-unwaiting-timed z f0 ws (protect2 r h k) n = tt
-unwaiting-timed z f0 ws (protect3 r h k) n = tt
-unwaiting-timed z f0 ws (protect4 r h) n = tt
-unwaiting-timed z f0 ws (copy1 a b) n = tt
-unwaiting-timed z f0 ws (release1 a) n = tt
-unwaiting-timed z f0 ws (publish1 r k) n = tt
-unwaiting-timed z f0 ws (remove1 r) n = tt
-unwaiting-timed z f0 ws (remove2 r k) n = tt
-unwaiting-timed z f0 ws (remove3 r k) n = tt
-unwaiting-timed z f0 ws reclaim1 n = tt
-unwaiting-timed z f0 ws (reclaim2 now seen) n = tt
-unwaiting-timed z f0 ws (reclaim3 now seen) n = tt
-unwaiting-timed z f0 ws ownerLock1 n = tt
-unwaiting-timed z f0 ws ownerLock2 n = tt
-unwaiting-timed z f0 ws (ownerLock3 v) n = tt
-unwaiting-timed z f0 ws ownerLock4 n = tt
-unwaiting-timed z f0 ws ownerLock5 n = tt
-unwaiting-timed z f0 ws ownerUnlock1 n = tt
-unwaiting-timed z f0 ws ownerUnlock2 n = tt
-unwaiting-timed z f0 ws ownerUnlock3 n = tt
-unwaiting-timed z f0 ws ownerUnlock4 n = tt
-unwaiting-timed z f0 ws otherLock1 n = tt
-unwaiting-timed z f0 ws otherLock2 n = tt
-unwaiting-timed z f0 ws (otherLock3 v) n = tt
-unwaiting-timed z f0 ws (otherLock4 v) n = tt
-unwaiting-timed z f0 ws (otherLock5 v) n = tt
-unwaiting-timed z f0 ws (otherLock6 v note) n = absurd (n refl)
-unwaiting-timed z f0 ws (otherLock7 v note) n = absurd (n refl)
-unwaiting-timed z f0 ws (otherLock8 v) n = absurd (n refl)
-unwaiting-timed z f0 ws otherUnlock1 n = tt
-unwaiting-timed z f0 ws (otherUnlock2 v) n = tt
-unwaiting-timed z f0 ws otherUnlock3 n = tt
+pub unwaiting-timed : (z : Settings) (f0 : ℕ) (ws : List Write) (p : Point) → side p ≢ 5 → TimedAt z f0 ws p
+unwaiting-timed z f0 ws p n = go (timed-case p) n
+  where
+    go : {q : Point} → TimedCase q → side q ≢ 5 → TimedAt z f0 ws q
+    go noted6 k = absurd (k refl)
+    go noted7 k = absurd (k refl)
+    go waited8 k = absurd (k refl)
+    go (untimed f) k = f z f0 ws
 
 -- what is asked of a thread that waits, after another step of the owner's writes
 pub timed-moves : (z : Settings) (f0 f0′ : ℕ) (ws ws′ : List Write) (p : Point)
     → ((note : ℕ) → All (λ (w : Write). w .cell ≡ flag0Cell z → w .date ≤ note) ws → All (λ (w : Write). w .cell ≡ flag0Cell z → w .date ≤ note) ws′)
     → ((f0 ≡ 1) × All (λ (w : Write). w .cell ≡ flag0Cell z → ⊥) ws → (f0′ ≡ 1) × All (λ (w : Write). w .cell ≡ flag0Cell z → ⊥) ws′) → TimedAt z f0 ws p → TimedAt z f0′ ws′ p
-timed-moves z f0 f0′ ws ws′ idle dated found x = tt
-timed-moves z f0 f0′ ws ws′ (protect1 r h) dated found x = tt
-timed-moves z f0 f0′ ws ws′ (protect2 r h k) dated found x = tt
-timed-moves z f0 f0′ ws ws′ (protect3 r h k) dated found x = tt
-timed-moves z f0 f0′ ws ws′ (protect4 r h) dated found x = tt
-timed-moves z f0 f0′ ws ws′ (copy1 a b) dated found x = tt
-timed-moves z f0 f0′ ws ws′ (release1 a) dated found x = tt
-timed-moves z f0 f0′ ws ws′ (publish1 r k) dated found x = tt
-timed-moves z f0 f0′ ws ws′ (remove1 r) dated found x = tt
-timed-moves z f0 f0′ ws ws′ (remove2 r k) dated found x = tt
-timed-moves z f0 f0′ ws ws′ (remove3 r k) dated found x = tt
-timed-moves z f0 f0′ ws ws′ reclaim1 dated found x = tt
-timed-moves z f0 f0′ ws ws′ (reclaim2 now seen) dated found x = tt
-timed-moves z f0 f0′ ws ws′ (reclaim3 now seen) dated found x = tt
-timed-moves z f0 f0′ ws ws′ ownerLock1 dated found x = tt
-timed-moves z f0 f0′ ws ws′ ownerLock2 dated found x = tt
-timed-moves z f0 f0′ ws ws′ (ownerLock3 v) dated found x = tt
-timed-moves z f0 f0′ ws ws′ ownerLock4 dated found x = tt
-timed-moves z f0 f0′ ws ws′ ownerLock5 dated found x = tt
-timed-moves z f0 f0′ ws ws′ ownerUnlock1 dated found x = tt
-timed-moves z f0 f0′ ws ws′ ownerUnlock2 dated found x = tt
-timed-moves z f0 f0′ ws ws′ ownerUnlock3 dated found x = tt
-timed-moves z f0 f0′ ws ws′ ownerUnlock4 dated found x = tt
-timed-moves z f0 f0′ ws ws′ otherLock1 dated found x = tt
-timed-moves z f0 f0′ ws ws′ otherLock2 dated found x = tt
-timed-moves z f0 f0′ ws ws′ (otherLock3 v) dated found x = tt
-timed-moves z f0 f0′ ws ws′ (otherLock4 v) dated found x = tt
-timed-moves z f0 f0′ ws ws′ (otherLock5 v) dated found x = tt
-timed-moves z f0 f0′ ws ws′ (otherLock6 v note) dated found x = dated note x
-timed-moves z f0 f0′ ws ws′ (otherLock7 v note) dated found x = dated note x
-timed-moves z f0 f0′ ws ws′ (otherLock8 v) dated found x = found x
-timed-moves z f0 f0′ ws ws′ otherUnlock1 dated found x = tt
-timed-moves z f0 f0′ ws ws′ (otherUnlock2 v) dated found x = tt
-timed-moves z f0 f0′ ws ws′ otherUnlock3 dated found x = tt
-
--- the owner is at no point of another
-pub owner-side : {f1 own : ℕ} {p : Point} {i : Bool} → OwnerAt f1 own p i → side p ≤ 1
-owner-side (OwnerAt.works {p} n) = let e = node-side p n in omega arith
-owner-side locks1 = omega arith
-owner-side (locks2 e) = omega arith
-owner-side (locks3 h) = omega arith
-owner-side (locks4 w e) = omega arith
-owner-side (locks5 w e) = omega arith
-owner-side unlocks1 = omega arith
-owner-side (unlocks2 e) = omega arith
-owner-side (unlocks3 w e) = omega arith
-owner-side unlocks4 = omega arith
+timed-moves z f0 f0′ ws ws′ p dated found x = go (timed-case p) x
+  where
+    go : {q : Point} → TimedCase q → TimedAt z f0 ws q → TimedAt z f0′ ws′ q
+    go (noted6 {note = note}) y = dated note y
+    go (noted7 {note = note}) y = dated note y
+    go waited8 y = found y
+    go (untimed f) y = f z f0′ ws′
 
 -- the owner in its loop is not inside
 pub loop-outside : {f1 own : ℕ} {p : Point} {i : Bool} → OwnerAt f1 own p i → InLoop p → i ≡ false
@@ -199,10 +101,6 @@ loop-outside (unlocks2 e) l = elim l [ ]
 loop-outside (unlocks3 w e) l = elim l [ ]
 loop-outside unlocks4 l = refl
 
-away-side : {p : Point} → Away p → (side p ≡ 0) ⊎ (side p ≡ 2)
-away-side (elsewhere {p} n) = inl (node-side p n)
-away-side asks = inr refl
-
 -- a thread inside has L, and flag1 is raised
 pub inside-odd : {z : Settings} {L f1 u : ℕ} {p : Point} {i : Bool} {ws : List Write} → Other z L f1 u p i ws → i ≡ true → (L ≡ u + 1) × (f1 % 2 ≡ 1)
 inside-odd (away l a i e) t = let y : _≡_ {A = ℕ} 0 1 = cc in absurd (omega arith)
@@ -215,99 +113,6 @@ inside-odd (lowering w d l p i e f) t = let y : _≡_ {A = ℕ} 0 1 = cc in absu
 inside-odd (lowered w l p i e f) t = let y : _≡_ {A = ℕ} 0 1 = cc in absurd (omega arith)
 inside-odd (releasing2 w d e l p i ws f) t = let y : _≡_ {A = ℕ} 0 1 = cc in absurd (omega arith)
 inside-odd (releasing w e l p i ws f) t = let y : _≡_ {A = ℕ} 0 1 = cc in absurd (omega arith)
-
-inside-side : {v : ℕ} {p : Point} → InsideAt v p → (side p ≡ 0) ⊎ (side p ≡ 2)
-inside-side (InsideAt.works {p} n) = inl (node-side p n)
-inside-side leaves1 = inr refl
-inside-side leaves2 = inr refl
-
-raised-side : {v : ℕ} {p : Point} → RaisedAt v p → 2 ≤ side p
-raised-side raised4 = omega arith
-raised-side raised5 = omega arith
-raised-side raised6 = omega arith
-raised-side raised7 = omega arith
-raised-side raised8 = omega arith
-
--- a thread that waits for the owner has L, flag1 is raised to its version, and none of its writes wait
-pub record Waits (L f1 u : ℕ) (p : Point) (ws : List Write) : Type 0 where
-  pub version : ℕ
-  pub lock : L ≡ u + 1
-  pub raised : RaisedAt (version + 1) p
-  pub none : ws ≡ []
-  pub flag1 : f1 ≡ 2 * (version + 1) + 1
-
--- where another thread is: not at the owner's points, and if it waits for the owner, so
-pub other-side : {z : Settings} {L f1 u : ℕ} {p : Point} {i : Bool} {ws : List Write} → Other z L f1 u p i ws → (side p ≡ 0) ⊎ ((side p ≡ 2) ⊎ Waits L f1 u p ws)
-other-side (away l a i e) = elim (away-side a) [ inl h ↦ inl h | inr h ↦ inr (inl h) ]
-other-side (enters2 w l p i e f) = inr (inl (rw p refl))
-other-side (enters3 w l p i e f) = inr (inl (rw p refl))
-other-side (raising w d l p i e f) = inr (inl (rw p refl))
-other-side (raised w l r i e f) = inr (inr (record { version = w; lock = l; raised = r; none = e; flag1 = f }))
-other-side (within w l a i e f) = elim (inside-side a) [ inl h ↦ inl h | inr h ↦ inr (inl h) ]
-other-side (lowering w d l p i e f) = inr (inl (rw p refl))
-other-side (lowered w l p i e f) = inr (inl (rw p refl))
-other-side (releasing2 w d e l a i ws f) = elim (away-side a) [ inl h ↦ inl h | inr h ↦ inr (inl h) ]
-other-side (releasing w e l a i ws f) = elim (away-side a) [ inl h ↦ inl h | inr h ↦ inr (inl h) ]
-
-pub other-unowned : {z : Settings} {L f1 u : ℕ} {p : Point} {i : Bool} {ws : List Write} → Other z L f1 u p i ws → side p ≢ 1
-other-unowned {p} o e = elim (other-side o) [ inl h ↦ omega arith | inr k ↦ elim k [ inl h ↦ omega arith | inr r ↦ let h = raised-side (r .raised) in omega arith ] ]
-
-pub other-waits : {z : Settings} {L f1 u : ℕ} {p : Point} {i : Bool} {ws : List Write} → Other z L f1 u p i ws → side p ≡ 3 → Waits L f1 u p ws
-other-waits {p} o e = elim (other-side o) [ inl h ↦ absurd (omega arith) | inr k ↦ elim k [ inl h ↦ absurd (omega arith) | inr r ↦ r ] ]
-
--- whose turn it is
-pub is-owner : {z : Settings} {a : LockState} → Turns z a → (t : ℕ) (p : Point) → a .point t ≡ p → side p ≡ 1 → t ≡ 0
-is-owner {a = a} h t p e s =
-    elim (cases-eq t 0) [
-      | inl z ↦ z
-      | inr n ↦ let l : 1 ≤ t = omega arith in absurd (other-unowned (h .others t l) (ap side e ∙ s))
-    ]
-
-pub is-other : {z : Settings} {a : LockState} → Owned z a → (t : ℕ) (p : Point) → a .point t ≡ p → 2 ≤ side p → 1 ≤ t
-is-other {a = a} o t p e s =
-    elim (cases-eq t 0) [
-      | inl z ↦ let h = owner-side (o .at) in let k : side (a .point 0) ≡ side p = ap side (ap (a .point) (sym z) ∙ e) in absurd (omega arith)
-      | inr n ↦ omega arith
-    ]
-
--- What a thread sees in a cell, by recursion from the oldest of its waiting writes.
-abbrev pub seesFrom : List Write → ℕ → ℕ → ℕ
-seesFrom [] c d = d
-seesFrom (w ∷ ws) c d = seesFrom ws c (cond (eqb (w .cell) c) (w .value) d)
-
-newest-sees : (o : Option ℕ) (ws : List Write) (c d : ℕ) → valueOr (newestOr o ws c) d ≡ seesFrom ws c (valueOr o d)
-newest-sees o [] c d = refl
-newest-sees o (w ∷ ws) c d = newest-sees (cond (eqb (w .cell) c) (Some (w .value)) o) ws c d ∙ ap (seesFrom ws c) (moves (eqb (w .cell) c))
-  where
-    moves : (b : Bool) → valueOr (cond b (Some (w .value)) o) d ≡ cond b (w .value) (valueOr o d)
-    moves true = refl
-    moves false = refl
-
-pub sees-from : (ws : List Write) (c d : ℕ) → valueOr (newest ws c) d ≡ seesFrom ws c d
-sees-from ws c d = newest-sees None ws c d
-
-pub sees-none : (ws : List Write) (c d : ℕ) → All (λ (w : Write). w .cell ≡ c → ⊥) ws → valueOr (newest ws c) d ≡ d
-sees-none ws c d h = sees-from ws c d ∙ go ws h
-  where
-    go : (us : List Write) → All (λ (w : Write). w .cell ≡ c → ⊥) us → seesFrom us c d ≡ d
-    go [] k = refl
-    go (u ∷ us) k = rw (ne-eqb (u .cell) c (k .0)) (go us (k .1))
-
-sees-push : (ws : List Write) (w : Write) (c d : ℕ) → seesFrom (ws ++ w ∷ []) c d ≡ cond (eqb (w .cell) c) (w .value) (seesFrom ws c d)
-sees-push [] w c d = refl
-sees-push (u ∷ us) w c d = sees-push us w c (cond (eqb (u .cell) c) (u .value) d)
-
--- the oldest write lands: what its thread sees stays
-pub sees-landed : (w : Write) (ws : List Write) (c d : ℕ) → valueOr (newest (w ∷ ws) c) d ≡ valueOr (newest ws c) (cond (eqb (w .cell) c) (w .value) d)
-sees-landed w ws c d = sees-from (w ∷ ws) c d ∙ sym (sees-from ws c (cond (eqb (w .cell) c) (w .value) d))
-
--- a write to the cell is stored, or one to another cell
-pub sees-stored : (ws : List Write) (w : Write) (c d : ℕ) → w .cell ≡ c → valueOr (newest (ws ++ w ∷ []) c) d ≡ w .value
-sees-stored ws w c d e = sees-from (ws ++ w ∷ []) c d ∙ (sees-push ws w c d ∙ cond-true (eqb (w .cell) c) (w .value) (seesFrom ws c d) (eq-eqb (w .cell) c e))
-
-pub sees-elsewhere : (ws : List Write) (w : Write) (c d : ℕ) → (w .cell ≡ c → ⊥) → valueOr (newest (ws ++ w ∷ []) c) d ≡ valueOr (newest ws c) d
-sees-elsewhere ws w c d n =
-    sees-from (ws ++ w ∷ []) c d ∙ (sees-push ws w c d ∙ (cond-false (eqb (w .cell) c) (w .value) (seesFrom ws c d) (ne-eqb (w .cell) c n) ∙ sym (sees-from ws c d)))
 
 -- Values of flag0.
 

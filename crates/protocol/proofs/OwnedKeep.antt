@@ -12,13 +12,17 @@ use Rattle.std.proofs.shelf.Tests.{cases-eq, eqb-true, eq-eqb, ne-eqb, cond-tru
 use Rattle.memory.specs.declared.write.Write.{Write}
 use Rattle.protocol.specs.declared.settings.Settings.{Settings}
 use Rattle.protocol.specs.Settings.{flag0Cell, flag1Cell}
+use Rattle.protocol.proofs.LockFacts.{sees-landed}
 use Rattle.protocol.proofs.LockView.{Sight, LockState, sees0, Same, LandsOne, StoresOne, TakesLock, TicksOn, Still}
 use Rattle.protocol.proofs.Locked.{Flag0, OwnerWrite, flags, releases, OwnerAt, InLoop, NoEcho, TimedAt, Turns, Owned}
-use Rattle.protocol.proofs.OwnedFacts.{sees-landed, flag0-grows, write-grows, at-grows, flag0-below, timed-moves, Oldest, raises, lowers, frees, other-oldest}
+use Rattle.protocol.proofs.OwnedFacts.{flag0-grows, write-grows, at-grows, flag0-below, timed-moves, Oldest, raises, lowers, frees, other-oldest}
 
 -- every waiting write may still wait: a fact of the memory
+abbrev pub Timely : Sight → Type 0
+Timely v = (t : ℕ) → All (λ (w : Write). v .clock ≤ w .date + v .bound) (v .writes t)
+
 abbrev pub InTime : LockState → Type 0
-InTime a = (t : ℕ) → All (λ (w : Write). a .sight .clock ≤ w .date + a .sight .bound) (a .sight .writes t)
+InTime a = Timely (a .sight)
 
 -- what the owner has written, and flag1, are as they were
 pub record Untouched (v v′ : Sight) : Type 0 where
@@ -97,7 +101,7 @@ lands-owner z a a′ l k o =
     flag1 = l .flag1 ∙ cond-false (eqb (w .cell) (flag1Cell z)) (w .value) (a .sight .flag1) (ne-eqb (w .cell) (flag1Cell z) (elsewhere (first .0)))
 
     own : sees0 z (a′ .sight) 0 ≡ sees0 z (a .sight) 0
-    own = rw (l .left, l .flag0, l .was) (sym (sees-landed w (l .rest) (flag0Cell z) (a .sight .flag0)))
+    own = sees-landed z 0 (a .sight) (a′ .sight) l
 
     echoless : (v : ℕ) → NoEcho z (v + 1) (a .sight .flag0) (a .sight .writes 0) → NoEcho z (v + 1) (cond here (w .value) (a .sight .flag0)) (l .rest)
     echoless v n =

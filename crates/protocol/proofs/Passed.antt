@@ -15,7 +15,7 @@ use Rattle.protocol.specs.declared.answer.Refusal.{Refusal}
 use Rattle.protocol.specs.declared.answer.Refusal.the-variants.{CallsUsedUp, NoSuchThread, ThreadIdle}
 use Rattle.protocol.specs.declared.operation.Operation.{Operation}
 use Rattle.protocol.specs.declared.settings.Settings.{Settings}
-use Rattle.protocol.specs.Begin.{fits, ready, roomy, sided}
+use Rattle.protocol.specs.Begin.{fits, ready, sided}
 use Rattle.protocol.specs.Settings.{inRange}
 use Rattle.protocol.specs.Steps.{request}
 use Rattle.protocol.specs.Tables.{Tables, State, doingAt, threadOf}

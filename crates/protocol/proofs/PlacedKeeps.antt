@@ -1,20 +1,16 @@
--- Every transition keeps the invariant of the tables for nodes, so it holds after every history. Assumes nothing.
-use mathlib.Core.Path.{_≡_, refl, ap, _∙_}
-use mathlib.Core.Bool.{true, not, _&&_}
-use mathlib.Core.List.{List, [], _∷_}
+-- Every transition keeps the invariant of the tables for nodes. Assumes nothing.
+use mathlib.Core.Path.{_≡_, refl, _∙_}
+use mathlib.Core.Bool.{true, _&&_}
 use mathlib.Core.Logic.{_⊎_, inl, inr}
-use Prim.Native.Nat.{ℕ, zero, suc, _+_, _<_, _≤_}
+use Prim.Native.Nat.{ℕ, _+_, _<_, _≤_}
 use native.Mathlib.Omega.{arith}
 use lib.Dec.{leb, ltb}
-use lib.ListN.{getD, set, replicate}
-use Rattle.std.specs.declared.option.Option.{Option}
-use Rattle.std.specs.declared.option.Option.the-variants.{Some, None}
+use lib.ListN.{set, replicate}
+use Rattle.std.specs.declared.option.Option.the-variants.{Some}
 use Rattle.std.proofs.shelf.Lists.{length-replicate, getD-replicate, getD-past}
 use Rattle.std.proofs.shelf.Tests.{cases-lt, and-parts, ltb-true, leb-true}
 use Rattle.memory.specs.Calls.{Sound}
-use Rattle.memory.specs.Meaning.{Meaning, queue, cell, fresh, ticked, isNew}
-use Rattle.memory.proofs.Beginnings.{new-from}
-use Rattle.memory.proofs.Soundness.{fresh-queue}
+use Rattle.memory.specs.Meaning.{Meaning, ticked, isNew}
 use Rattle.memory.proofs.Views.{lands-clock}
 use Rattle.protocol.specs.declared.answer.Answer.{Answer}
 use Rattle.protocol.specs.declared.call.Call.{Call}
@@ -23,13 +19,12 @@ use Rattle.protocol.specs.declared.node.NodeState.the-variants.{Free, Taken, P
 use Rattle.protocol.specs.declared.operation.Operation.{Operation}
 use Rattle.protocol.specs.declared.operation.Operation.the-variants.{Protect, Copy, Release, Publish, Remove, Reclaim, OwnerLock, OwnerUnlock, OtherLock, OtherUnlock}
 use Rattle.protocol.specs.declared.settings.Settings.{Settings}
-use Rattle.protocol.specs.Begin.{named, fits, isFree, ready, roomy, sided, begun}
-use Rattle.protocol.specs.Guarantees.{Explains}
-use Rattle.protocol.specs.History.{Event}
+use Rattle.protocol.specs.Begin.{named, fits, isFree, ready, begun}
 use Rattle.protocol.specs.Settings.{inRange}
-use Rattle.protocol.specs.Steps.{Told, request, after, movedTo}
-use Rattle.protocol.specs.Tables.{Point, Tables, State, doingAt, threadOf, nodeOf, idleThread, firstTables, protect1, copy1, release1, remove1, reclaim1, ownerLock1, ownerUnlock1, otherLock1, otherUnlock1}
-use Rattle.protocol.specs.Transition.{Trans, refuses, setsUp, ticks, lands, begins, steps, isIdle, tickAsks, beginAsks, stepAsks, requestChecks, checksOf, first, here, counted, stepped}
+use Rattle.protocol.specs.Steps.{Told, after, movedTo}
+use Rattle.protocol.specs.Tables.{Point, Tables, State, threadOf, nodeOf, idleThread, firstTables, protect1, copy1, release1, remove1, reclaim1, ownerLock1, ownerUnlock1, otherLock1, otherUnlock1}
+use Rattle.protocol.specs.Transition.{Trans, refuses, setsUp, ticks, lands, begins, steps, tickAsks, beginAsks, stepAsks, here, counted, stepped}
+use Rattle.protocol.proofs.FirstState.{same-all, new-empty, new-blank}
 use Rattle.protocol.proofs.Passed.{rest-passed, clock-passed, set-up-passed, begin-passed, step-passed}
 use Rattle.protocol.proofs.Placed.{FitsAt, Placed, Inv}
 use Rattle.protocol.proofs.PlacedMemory.{landed-placed, lands-placed, ticked-placed}
@@ -38,11 +33,6 @@ use Rattle.protocol.proofs.PlacedRows.{Rooted, Row, Frame, roots-of, row-of, f
 use Rattle.protocol.proofs.PlacedSteps.{step-placed}
 
 -- Set-up.
-
-same-all : {A : Type 0} (n i : ℕ) (d : A) → getD (replicate n d) i d ≡ d
-same-all zero i d = refl
-same-all (suc n) zero d = refl
-same-all (suc n) (suc i) d = same-all n i d
 
 idle-row : (z : Settings) (n clock u h : ℕ) → (u < z .threads → h ≡ z .hazards) → Row z (replicate n Free) clock u (idleThread h)
 idle-row z n clock u h e =
@@ -59,15 +49,6 @@ idle-row z n clock u h e =
 pub first-placed : (z : Settings) (m : Meaning) → inRange z ≡ true → Sound m → isNew m ≡ true → Placed (firstTables z) m
 first-placed z m range s new = from-parts (firstTables z) m frame roots (λ u. row u (cases-lt u (z .threads)))
   where
-    is : m ≡ fresh (m .bound) (m .selfLanding)
-    is = new-from m s new
-
-    empty : (t : ℕ) → queue m t ≡ []
-    empty t = ap (λ (y : Meaning). queue y t) is ∙ fresh-queue (m .bound) (m .selfLanding) t
-
-    blank : (c : ℕ) → cell m c ≡ 0
-    blank c = ap (λ (y : Meaning). cell y c) is ∙ same-all 64 c 0
-
     frame : Frame (firstTables z) m
     frame =
         record {
@@ -75,14 +56,14 @@ first-placed z m range s new = from-parts (firstTables z) m frame roots (λ u. r
           threads = length-replicate (z .threads) (idleThread (z .hazards));
           nodes = length-replicate (z .nodes + 1) Free;
           sound = s;
-          writes = λ t. rw (empty t) tt;
+          writes = λ t. rw (new-empty m s new t) tt;
         }
 
     roots : Rooted (z .roots) (replicate (z .nodes + 1) Free) m
     roots =
         record {
           none = same-all (z .nodes + 1) 0 Free;
-          rooted = λ r lt pos. let e = blank r in absurd (omega arith);
+          rooted = λ r lt pos. let e = new-blank m s new r in absurd (omega arith);
           published = λ n r e. let f = same-all {A = NodeState} (z .nodes + 1) n Free in let y : _≡_ {A = ℕ} 0 1 = cc in absurd (omega arith);
         }
 
@@ -102,7 +83,7 @@ counted-placed x m p =
 
 -- Begin.
 
-free-is : (z : NodeState) → isFree z ≡ true → z ≡ Free
+pub free-is : (z : NodeState) → isFree z ≡ true → z ≡ Free
 free-is Free e = refl
 free-is (Taken t) e = cc
 free-is (Published r) e = cc
@@ -157,7 +138,3 @@ keeps s s′ (steps {t} {x} {a} {k} e f w) i =
     let h = step-passed t (s .memory) x (rest-passed (s .tables) (stepAsks t (s .memory)) x e f) in
     inv-at s′ (counted (stepped x t (after (here x (s .memory) t) (threadOf x t .point) k))) (w .tables)
     (step-placed x (s .memory) (s′ .memory) t k (h .thread) (i .placed x e) (h .memory) (w .memory))
-
-pub explains-inv : (h : List Event) (s : State) → Explains h s → Inv s
-explains-inv [] s e = record { sound = e .1; placed = λ x f. let g = e .0 in let y : _≡_ {A = ℕ} 0 1 = cc in absurd (omega arith) }
-explains-inv (v ∷ h) s e = keeps (e .0) s (e .2) (explains-inv h (e .0) (e .1))

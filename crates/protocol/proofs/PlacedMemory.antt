@@ -1,27 +1,25 @@
 -- What the memory does by itself keeps the invariant of the tables for nodes. Assumes nothing.
 use mathlib.Core.Path.{_≡_, refl, _∙_}
-use mathlib.Core.Bool.{Bool, true, false, _&&_}
-use mathlib.Core.List.{_∷_}
-use mathlib.Core.Logic.{_⊎_, inl, inr, _≢_}
-use Prim.Native.Nat.{ℕ, _*_, _<_, _≤_}
-use native.Mathlib.Nat.{mul-le-mul}
+use mathlib.Core.Bool.{true, _&&_}
+use Prim.Native.Nat.{ℕ, _+_, _*_, _<_, _≤_}
+use native.Mathlib.Nat.{mul-le-mul, mul-add, mul-comm}
 use native.Mathlib.Omega.{arith}
-use lib.Dec.{eqb, leb, ltb}
+use lib.Dec.{leb, ltb}
 use lib.ListN.{length}
-use Rattle.std.specs.shelf.Lists.{All}
-use Rattle.std.proofs.shelf.Elements.{all-push, all-weaker}
-use Rattle.std.proofs.shelf.Tests.{cases-eq, and-parts, leb-true}
-use Rattle.memory.specs.declared.write.Write.{Write}
+use Rattle.std.proofs.shelf.Elements.{all-weaker}
+use Rattle.std.proofs.shelf.Tests.{and-parts, leb-true}
 use Rattle.memory.specs.Calls.{Sound}
 use Rattle.memory.specs.Landings.{Lands}
-use Rattle.memory.specs.Meaning.{Meaning, queue, cell, written, stored, landed, exchanged, ticked}
+use Rattle.memory.specs.Meaning.{Meaning, queue, stored, landed, exchanged, ticked}
 use Rattle.memory.proofs.Soundness.{landed-sound, stored-sound, exchanged-sound, ticked-sound}
-use Rattle.memory.proofs.Views.{Popped, Pushed, Put, Moved, landed-cases, stored-pushes, exchanged-puts, exchanged-none, ticked-moves, lands-keep}
+use Rattle.memory.proofs.Views.{lands-keep}
 use Rattle.protocol.specs.declared.retired.Retired.{Retired}
 use Rattle.protocol.specs.declared.settings.Settings.{Settings}
-use Rattle.protocol.specs.Settings.{inRange, within, hazardCells, hazardCell}
+use Rattle.protocol.specs.Settings.{inRange, within, hazardCells, hazardCell, lockCell}
 use Rattle.protocol.specs.Tables.{Tables, threadOf}
+use Rattle.protocol.proofs.BoundStays.{onward-landed, onward-stored, onward-exchanged, onward-ticked}
 use Rattle.protocol.proofs.Placed.{Placed}
+use Rattle.protocol.proofs.RootCells.{Below, below-landed, below-stored, below-exchanged, below-ticked}
 
 -- the ranges of the settings
 pub record Ranges (z : Settings) : Type 0 where
@@ -48,28 +46,31 @@ ranges z e =
       some = let few : 2 * 1 ≤ z .threads * z .hazards = mul-le-mul u i in omega arith;
     }
 
--- a hazard cell is a cell, and no root
-pub hazard-inside : (z : Settings) (t h : ℕ) → Ranges z → t < z .threads → h < z .hazards → hazardCell z t h < 64
-hazard-inside z t h g lt lh =
-    let u : t ≤ 7 = let k = g .threads in omega arith in
-    let few : z .hazards * t ≤ 4 * 7 = mul-le-mul (g .hazards) u in
-    let a = g .hazards in
-    let b = g .roots in
+-- the hazard cells stand below the lock's cells
+pub hazard-below : (z : Settings) (t h : ℕ) → t < z .threads → h < z .hazards → hazardCell z t h < lockCell z
+hazard-below z t h lt lh =
+    let a : z .hazards * (t + 1) ≤ z .hazards * z .threads = mul-le-mul (omega arith) (omega arith) in
+    let b = mul-add (z .hazards) t 1 in
+    let c = mul-comm (z .hazards) (z .threads) in
     omega arith
 
-abbrev pub OffRoots : ℕ → Write → Type 0
-OffRoots roots w = roots ≤ w .cell
+-- and are cells
+pub hazard-inside : (z : Settings) (t h : ℕ) → Ranges z → t < z .threads → h < z .hazards → hazardCell z t h < 64
+hazard-inside z t h g lt lh = let a = hazard-below z t h lt lh in let b = g .roots in let c = g .cells in omega arith
+
+pub placed-below : (x : Tables) (m : Meaning) → Placed x m → Below (x .settings .roots) m m
+placed-below x m p = record { cells = λ r lt. refl; writes = p .writes }
 
 -- what does not touch the roots
-pub memory-moves : (x : Tables) (m m′ : Meaning) → Placed x m → Sound m′ → ((t : ℕ) → All (OffRoots (x .settings .roots)) (queue m′ t)) → ((r : ℕ) → r < x .settings .roots → cell m′ r ≡ cell m r) → m .clock ≤ m′ .clock → Placed x m′
-memory-moves x m m′ p s w same later =
+pub memory-moves : (x : Tables) (m m′ : Meaning) → Placed x m → Sound m′ → Below (x .settings .roots) m m′ → m .clock ≤ m′ .clock → Placed x m′
+memory-moves x m m′ p s b later =
     record {
       shape = p .shape;
       sound = s;
-      writes = w;
+      writes = b .writes;
       none = p .none;
-      rooted = λ r lt pos. rw (same r lt) (p .rooted r lt (rw (same r lt) at pos));
-      published = λ n r e. let q = p .published n r e in (q .0, same r (q .0) ∙ q .1);
+      rooted = λ r lt pos. rw (b .cells r lt) (p .rooted r lt (rw (b .cells r lt) at pos));
+      published = λ n r e. let q = p .published n r e in (q .0, b .cells r (q .0) ∙ q .1);
       taking = p .taking;
       removing = p .removing;
       listed = p .listed;
@@ -77,53 +78,24 @@ memory-moves x m m′ p s w same later =
       dates = λ t. all-weaker (λ (e : Retired). e .date ≤ m .clock) (λ (e : Retired). e .date ≤ m′ .clock) (λ e h. omega arith) (threadOf x t .retired) (p .dates t);
     }
 
-popped-placed : (x : Tables) (t : ℕ) (m : Meaning) → Placed x m → Popped t m (landed t m) → Placed x (landed t m)
-popped-placed x t m p q = memory-moves x m (landed t m) p (landed-sound t m (p .sound)) (λ u. at u (cases-eq u t)) same (let e = q .clock in omega arith)
-  where
-    first : All (OffRoots (x .settings .roots)) (q .write ∷ q .rest)
-    first = rw (q .was) at (p .writes t)
-
-    at : (u : ℕ) → (u ≡ t) ⊎ (u ≢ t) → All (OffRoots (x .settings .roots)) (queue (landed t m) u)
-    at u (inl e) = rw (e, q .left) (first .1)
-    at u (inr ne) = rw (q .others u ne) (p .writes u)
-
-    same : (r : ℕ) → r < x .settings .roots → cell (landed t m) r ≡ cell m r
-    same r lt = q .elsewhere r (λ e. let h : x .settings .roots ≤ q .write .cell = first .0 in omega arith)
-
 pub landed-placed : (x : Tables) (t : ℕ) (m : Meaning) → Placed x m → Placed x (landed t m)
-landed-placed x t m p = elim (landed-cases t m) [ inl e ↦ rw e p | inr q ↦ popped-placed x t m p q ]
+landed-placed x t m p =
+    memory-moves x m (landed t m) p (landed-sound t m (p .sound)) (below-landed (x .settings .roots) m t m (placed-below x m p)) (onward-landed t m .clock)
 
 pub lands-placed : (x : Tables) {m m′ : Meaning} → Lands m m′ → Placed x m → Placed x m′
 lands-placed x l p = lands-keep (Placed x) (landed-placed x) l p
 
 -- a store to a cell that is no root
 pub stored-placed : (x : Tables) (t c v : ℕ) (m : Meaning) → t < 8 → x .settings .roots ≤ c → c < 64 → length (queue m t) < 8 → Placed x m → Placed x (stored t c v m)
-stored-placed x t c v m lt off inside few p = go (stored-pushes t c v m (let e = p .sound .threads in omega arith))
-  where
-    at : Pushed t c v m (stored t c v m) → (u : ℕ) → (u ≡ t) ⊎ (u ≢ t) → All (OffRoots (x .settings .roots)) (queue (stored t c v m) u)
-    at q u (inl e) = rw (e, q .here) (all-push (OffRoots (x .settings .roots)) (queue m t) (written m c v) (p .writes t) off)
-    at q u (inr ne) = rw (q .others u ne) (p .writes u)
-
-    go : Pushed t c v m (stored t c v m) → Placed x (stored t c v m)
-    go q =
-        memory-moves x m (stored t c v m) p (stored-sound t c v m lt inside few (p .sound)) (λ u. at q u (cases-eq u t)) (λ r h. rw (q .cells) refl)
-        (let e = q .clock in omega arith)
+stored-placed x t c v m lt off inside few p =
+    let within : t < length (m .waiting) = let e = p .sound .threads in omega arith in
+    memory-moves x m (stored t c v m) p (stored-sound t c v m lt inside few (p .sound)) (below-stored (x .settings .roots) m t c v m within off (placed-below x m p))
+    (onward-stored t c v m .clock)
 
 -- an exchange of a cell that is no root
 pub exchanged-placed : (x : Tables) (c old new : ℕ) (m : Meaning) → x .settings .roots ≤ c → Placed x m → Placed x (exchanged c old new m)
-exchanged-placed x c old new m off p = go (eqb (cell m c) old) refl
-  where
-    put : Put c new m (exchanged c old new m) → Placed x (exchanged c old new m)
-    put q =
-        memory-moves x m (exchanged c old new m) p (exchanged-sound c old new m (p .sound)) (λ u. rw (q .waiting) (p .writes u)) (λ r h. q .elsewhere r (λ e. omega arith))
-        (let e = q .clock in omega arith)
-
-    go : (b : Bool) → eqb (cell m c) old ≡ b → Placed x (exchanged c old new m)
-    go true e = put (exchanged-puts c old new m e)
-    go false e = rw (exchanged-none c old new m e) p
+exchanged-placed x c old new m off p =
+    memory-moves x m (exchanged c old new m) p (exchanged-sound c old new m (p .sound)) (below-exchanged (x .settings .roots) m c old new m off (placed-below x m p)) (onward-exchanged c old new m .clock)
 
 pub ticked-placed : (x : Tables) (m : Meaning) → m .clock < 1000000 → Placed x m → Placed x (ticked m)
-ticked-placed x m lt p = go (ticked-moves m)
-  where
-    go : Moved m (ticked m) → Placed x (ticked m)
-    go q = memory-moves x m (ticked m) p (ticked-sound m lt (p .sound)) (λ u. rw (q .waiting) (p .writes u)) (λ r h. rw (q .cells) refl) (let e = q .clock in omega arith)
+ticked-placed x m lt p = memory-moves x m (ticked m) p (ticked-sound m lt (p .sound)) (below-ticked (x .settings .roots) m m (placed-below x m p)) (onward-ticked m .clock)

@@ -19,6 +19,7 @@ use Rattle.protocol.specs.Guarantees.{retiredIn}
 use Rattle.protocol.specs.History.{names}
 use Rattle.protocol.specs.Steps.{freeing}
 use Rattle.protocol.proofs.PlacedRows.{Rooted, Others, others-same}
+use Rattle.protocol.proofs.Refusals.{cond-same}
 
 abbrev pub Unpublished : NodeState → Type 0
 Unpublished z = (r : ℕ) → z ≡ Published r → ⊥
@@ -110,10 +111,6 @@ roots-put ns n lt roots m m′ r pos lr inside is un put q =
 free-at : (ns : List NodeState) (n : ℕ) → getD (set ns n Free) n Free ≡ Free
 free-at ns n = elim (cases-lt n (length ns)) [ inl lt ↦ getD-set-same ns n Free Free lt | inr le ↦ rw (set-past ns n Free le) (getD-past ns n Free le) ]
 
-same-ways : {A : Type 0} (b : Bool) (y : A) → cond b y y ≡ y
-same-ways true y = refl
-same-ways false y = refl
-
 pub freeing-at : (l : List Retired) (ns : List NodeState) (n : ℕ) → getD (freeing l ns) n Free ≡ cond (ltb 0 (names n l)) Free (getD ns n Free)
 freeing-at [] ns n = refl
 freeing-at (e ∷ l) ns n = at (cases-eq n (e .node)) (freeing-at l (set ns (e .node) Free) n)
@@ -122,7 +119,7 @@ freeing-at (e ∷ l) ns n = at (cases-eq n (e .node)) (freeing-at l (set ns (e .
         → getD (freeing l (set ns (e .node) Free)) n Free ≡ cond (ltb 0 (cond (eqb (e .node) n) 1 0 + names n l)) Free (getD ns n Free)
     at (inl f) ih =
         let g : getD (set ns (e .node) Free) n Free ≡ Free = rw f (free-at ns (e .node)) in
-        rw (eq-eqb (e .node) n (sym f), lt-ltb 0 (1 + names n l) (omega arith)) ((rw g at ih) ∙ same-ways (ltb 0 (names n l)) Free)
+        rw (eq-eqb (e .node) n (sym f), lt-ltb 0 (1 + names n l) (omega arith)) ((rw g at ih) ∙ cond-same (ltb 0 (names n l)) Free)
     at (inr ne) ih =
         let z : 0 + names n l ≡ names n l = omega arith in
         rw (ne-eqb (e .node) n (λ f. ne (sym f)), z) (rw (getD-set-other ns (e .node) n Free Free ne) at ih)

@@ -20,7 +20,7 @@ use Rattle.protocol.specs.History.{names}
 use Rattle.protocol.specs.Settings.{inRange}
 use Rattle.protocol.specs.Tables.{Thread, Tables, threadOf, nodeOf, idleThread, publish1, remove3}
 use Rattle.protocol.proofs.Placed.{FitsAt, Placed}
-use Rattle.protocol.proofs.PlacedMemory.{OffRoots}
+use Rattle.protocol.proofs.RootCells.{OffRoots}
 
 -- what the roots and the nodes say of each other
 pub record Rooted (roots : ℕ) (ns : List NodeState) (m : Meaning) : Type 0 where

@@ -2,16 +2,15 @@
 use mathlib.Core.Bool.{Bool, true, false, cond}
 use mathlib.Core.List.{List, _∷_}
 use mathlib.Core.Path.{_≡_, refl}
-use Prim.Native.Nat.{ℕ, _+_, _<_}
-use native.Mathlib.Omega.{arith}
+use Prim.Native.Nat.{ℕ}
 use lib.Dec.{eqb}
-use Rattle.std.proofs.shelf.Tests.{and-right, ne-eqb}
+use Rattle.std.proofs.shelf.Tests.{and-right}
 use Rattle.protocol.specs.declared.answer.Answer.the-variants.{Refused}
 use Rattle.protocol.specs.declared.answer.Refusal.{Refusal}
 use Rattle.protocol.specs.declared.call.Call.{Call}
 use Rattle.protocol.specs.declared.call.Call.the-variants.{SetUp, Tick, Land, Begin, Step}
 use Rattle.protocol.specs.declared.operation.Operation.the-variants.{Protect, Copy, Release, Publish, Remove, Reclaim, OwnerLock, OwnerUnlock, OtherLock, OtherUnlock}
-use Rattle.protocol.specs.History.{Event, event, atStep, doingIn, guardIn, insideIn, sweepClockIn, loadedIn, removingIn, listIn, timesFreed, timesRetired, stateIn, rootStep, rootIn, settingsIn, lastRetiredIn}
+use Rattle.protocol.specs.History.{Event, event, atStep, doingIn, guardIn, insideIn, sweepClockIn, loadedIn, removingIn, listIn, stateIn, rootStep, rootIn, settingsIn}
 use Rattle.protocol.specs.Steps.{Told}
 use Rattle.protocol.specs.Tables.{Doing, nothing, busy}
 
@@ -45,9 +44,6 @@ module _ (h : List Event) (c : Call) (e : Refusal) (k : Told) where
 
   pub refused-list : (b t : ℕ) → listIn b (event c (Refused e) k ∷ h) t ≡ listIn b h t
   refused-list b t = refused-at c e t _ _
-
-  pub refused-lastRetired : (t : ℕ) → lastRetiredIn (event c (Refused e) k ∷ h) t ≡ lastRetiredIn h t
-  refused-lastRetired t = refused-at c e t _ _
 
 pub refused-doing : (h : List Event) (c : Call) (e : Refusal) (k : Told) (t : ℕ) → doingIn (event c (Refused e) k ∷ h) t ≡ doingIn h t
 refused-doing h (SetUp z) e k t = refl
@@ -89,21 +85,3 @@ refused-root h Tick e k r = refl
 refused-root h (Land u) e k r = refl
 refused-root h (Begin u o x y) e k r = refl
 refused-root h (Step u) e k r = root-refused (doingIn h u) e r (rootIn h r)
-
-pub refused-timesFreed : (h : List Event) (c : Call) (e : Refusal) (k : Told) (b n : ℕ) → timesFreed b (event c (Refused e) k ∷ h) n ≡ timesFreed b h n
-refused-timesFreed h (SetUp z) e k b n = omega arith
-refused-timesFreed h Tick e k b n = omega arith
-refused-timesFreed h (Land u) e k b n = omega arith
-refused-timesFreed h (Begin u o x y) e k b n = omega arith
-refused-timesFreed h (Step u) e k b n = omega arith
-
--- node 0 stands for no node, so it is not counted
-nothing-retired : (w n : ℕ) → 0 < n → w + cond (eqb 0 n) 1 0 ≡ w
-nothing-retired w n p = rw (ne-eqb 0 n (λ q. omega arith)) (omega arith)
-
-pub refused-timesRetired : (h : List Event) (c : Call) (e : Refusal) (k : Told) (n : ℕ) → 0 < n → timesRetired (event c (Refused e) k ∷ h) n ≡ timesRetired h n
-refused-timesRetired h (SetUp z) e k n p = nothing-retired (timesRetired h n) n p
-refused-timesRetired h Tick e k n p = nothing-retired (timesRetired h n) n p
-refused-timesRetired h (Land u) e k n p = nothing-retired (timesRetired h n) n p
-refused-timesRetired h (Begin u o x y) e k n p = nothing-retired (timesRetired h n) n p
-refused-timesRetired h (Step u) e k n p = nothing-retired (timesRetired h n) n p

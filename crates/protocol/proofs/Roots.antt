@@ -2,41 +2,32 @@
 use mathlib.Core.Path.{_≡_, refl, sym, ap, _∙_}
 use mathlib.Core.Bool.{Bool, true, false, cond, _&&_}
 use mathlib.Core.Logic.{_⊎_, inl, inr, _≢_}
-use mathlib.Core.List.{List, [], _∷_}
+use mathlib.Core.List.{List, _∷_}
 use Prim.Native.Nat.{ℕ, _<_, _≤_}
 use native.Mathlib.Omega.{arith}
 use lib.Dec.{eqb, ltb}
 use lib.ListN.{length}
 use Rattle.std.specs.declared.option.Option.{Option}
 use Rattle.std.specs.declared.option.Option.the-variants.{Some, None}
-use Rattle.std.specs.shelf.Lists.{All}
-use Rattle.std.proofs.shelf.Elements.{all-push}
-use Rattle.std.proofs.shelf.Lists.{getD-past}
-use Rattle.std.proofs.shelf.Tests.{cases-eq, cases-lt, lt-ltb, le-ltb, ne-eqb, eqb-true, ltb-true, leb-true, and-parts, and-right}
+use Rattle.std.proofs.shelf.Tests.{cases-eq, cases-lt, lt-ltb, le-ltb, ne-eqb, eqb-true, and-right}
 use Rattle.std.proofs.shelf.Ways.{tells}
-use Rattle.memory.specs.declared.write.Write.{Write}
 use Rattle.memory.specs.Calls.{Sound, Exchanged}
 use Rattle.memory.specs.Landings.{Lands}
-use Rattle.memory.specs.Meaning.{Meaning, queue, cell, written, stored, landed, exchanged, ticked, nothingWaits, cellsAreZero, isNew}
-use Rattle.memory.proofs.Emptiness.{all-of-at}
-use Rattle.memory.proofs.Views.{Popped, Pushed, Put, Moved, landed-cases, stored-pushes, exchanged-puts, exchanged-none, ticked-moves, lands-keep, lands-fixed}
+use Rattle.memory.specs.Meaning.{Meaning, cell, exchanged, ticked}
+use Rattle.memory.proofs.Views.{Put, exchanged-puts, exchanged-none, lands-fixed}
 use Rattle.protocol.specs.declared.answer.Answer.{Answer}
-use Rattle.protocol.specs.declared.answer.Answer.the-variants.{Refused}
-use Rattle.protocol.specs.declared.answer.Refusal.{Refusal}
 use Rattle.protocol.specs.declared.call.Call.{Call}
-use Rattle.protocol.specs.declared.call.Call.the-variants.{SetUp, Tick, Land, Begin, Step}
-use Rattle.protocol.specs.declared.operation.Operation.{Operation}
-use Rattle.protocol.specs.declared.operation.Operation.the-variants.{Protect, Copy, Release, Publish, Remove, Reclaim, OwnerLock, OwnerUnlock, OtherLock, OtherUnlock}
-use Rattle.protocol.specs.declared.settings.Settings.{Settings}
-use Rattle.protocol.specs.History.{Event, endedWell, goingOn, doingIn, rootBy, rootStep, rootAfter, rootIn}
-use Rattle.protocol.specs.Settings.{inRange, within}
+use Rattle.protocol.specs.declared.node.NodeState.the-variants.{Published}
+use Rattle.protocol.specs.History.{Event, endedWell, goingOn, doingIn, rootStep, rootAfter, rootIn}
 use Rattle.protocol.specs.Steps.{Request, asksLoad, asksStore, asksExchange, asksClock, asksFence, asksNothing, Told, doneTold, Here, request, after, afterPublish1, afterRemove2}
-use Rattle.protocol.specs.Tables.{Doing, nothing, busy, doingAt, Tables, State, threadOf, Point, idle, protect1, protect2, protect3, protect4, copy1, release1, publish1, remove1, remove2, remove3, reclaim1, reclaim2, reclaim3, ownerLock1, ownerLock2, ownerLock3, ownerLock4, ownerLock5, ownerUnlock1, ownerUnlock2, ownerUnlock3, ownerUnlock4, otherLock1, otherLock2, otherLock3, otherLock4, otherLock5, otherLock6, otherLock7, otherLock8, otherUnlock1, otherUnlock2, otherUnlock3}
+use Rattle.protocol.specs.Tables.{doingAt, Tables, State, threadOf, nodeOf, Point, idle, protect1, protect2, protect3, protect4, copy1, release1, publish1, remove1, remove2, remove3, reclaim1, reclaim2, reclaim3, ownerLock1, ownerLock2, ownerLock3, ownerLock4, ownerLock5, ownerUnlock1, ownerUnlock2, ownerUnlock3, ownerUnlock4, otherLock1, otherLock2, otherLock3, otherLock4, otherLock5, otherLock6, otherLock7, otherLock8, otherUnlock1, otherUnlock2, otherUnlock3}
 use Rattle.protocol.specs.Transition.{Meets, Trans, refuses, setsUp, ticks, lands, begins, steps, here, stepAsks}
+use Rattle.protocol.proofs.FirstState.{new-blank}
 use Rattle.protocol.proofs.Passed.{rest-passed, set-up-passed, step-passed}
-use Rattle.protocol.proofs.Placed.{Placed, Inv}
-use Rattle.protocol.proofs.PlacedMemory.{ranges}
-use Rattle.protocol.proofs.Refusals.{refused-root}
+use Rattle.protocol.proofs.Placed.{FitsAt, Placed, Inv}
+use Rattle.protocol.proofs.PlacedMemory.{ranges, placed-below}
+use Rattle.protocol.proofs.Refusals.{cond-same, refused-root}
+use Rattle.protocol.proofs.RootCells.{Below, below-landed, below-lands, below-stored, below-exchanged, below-ticked}
 use Rattle.protocol.proofs.Shown.{Shown}
 
 -- what the tables and the memory say of a root: what its cell holds, and 0 where there is no such root
@@ -46,52 +37,6 @@ rootOr (Some x) m r = cond (ltb r (x .settings .roots)) (cell m r) 0
 
 abbrev pub RootsShown : List Event → State → Type 0
 RootsShown h s = (r : ℕ) → rootIn h r ≡ rootOr (s .tables) (s .memory) r
-
--- The cells below n are those that m had, and no write waits for them.
-pub record Below (n : ℕ) (m m′ : Meaning) : Type 0 where
-  pub cells : (r : ℕ) → r < n → cell m′ r ≡ cell m r
-  pub writes : (t : ℕ) → All (λ (w : Write). n ≤ w .cell) (queue m′ t)
-
-pub below-landed : (n : ℕ) (m : Meaning) (t : ℕ) (l : Meaning) → Below n m l → Below n m (landed t l)
-below-landed n m t l b = elim (landed-cases t l) [ inl e ↦ rw e b | inr p ↦ popped p ]
-  where
-    popped : Popped t l (landed t l) → Below n m (landed t l)
-    popped p =
-        let all = rw (p .was) at (b .writes t) in
-        record { cells = λ r lt. p .elsewhere r (λ e. let k = all .0 in omega arith) ∙ b .cells r lt; writes = λ u. at u (cases-eq u t) }
-      where
-        at : (u : ℕ) → (u ≡ t) ⊎ (u ≢ t) → All (λ (w : Write). n ≤ w .cell) (queue (landed t l) u)
-        at u (inl e) = rw (e, p .left) ((rw (p .was) at (b .writes t)) .1)
-        at u (inr ne) = rw (p .others u ne) (b .writes u)
-
-pub below-lands : (n : ℕ) (m : Meaning) {l l′ : Meaning} → Lands l l′ → Below n m l → Below n m l′
-below-lands n m f b = lands-keep (Below n m) (below-landed n m) f b
-
-pub below-stored : (n : ℕ) (m : Meaning) (t c v : ℕ) (l : Meaning) → t < length (l .waiting) → n ≤ c → Below n m l → Below n m (stored t c v l)
-below-stored n m t c v l lt le b = go (stored-pushes t c v l lt)
-  where
-    go : Pushed t c v l (stored t c v l) → Below n m (stored t c v l)
-    go p = record { cells = λ r h. rw (p .cells) (b .cells r h); writes = λ u. at u (cases-eq u t) }
-      where
-        at : (u : ℕ) → (u ≡ t) ⊎ (u ≢ t) → All (λ (w : Write). n ≤ w .cell) (queue (stored t c v l) u)
-        at u (inl e) = rw (e, p .here) (all-push (λ (w : Write). n ≤ w .cell) (queue l t) (written l c v) (b .writes t) le)
-        at u (inr ne) = rw (p .others u ne) (b .writes u)
-
-pub below-exchanged : (n : ℕ) (m : Meaning) (c old new : ℕ) (l : Meaning) → n ≤ c → Below n m l → Below n m (exchanged c old new l)
-below-exchanged n m c old new l le b = go (eqb (cell l c) old) refl
-  where
-    put : Put c new l (exchanged c old new l) → Below n m (exchanged c old new l)
-    put p = record { cells = λ r lt. p .elsewhere r (λ e. omega arith) ∙ b .cells r lt; writes = λ u. rw (p .waiting) (b .writes u) }
-
-    go : (d : Bool) → eqb (cell l c) old ≡ d → Below n m (exchanged c old new l)
-    go true e = put (exchanged-puts c old new l e)
-    go false e = rw (exchanged-none c old new l e) b
-
-pub below-ticked : (n : ℕ) (m l : Meaning) → Below n m l → Below n m (ticked l)
-below-ticked n m l b = go (ticked-moves l)
-  where
-    go : Moved l (ticked l) → Below n m (ticked l)
-    go p = record { cells = λ r lt. rw (p .cells) (b .cells r lt); writes = λ u. rw (p .waiting) (b .writes u) }
 
 -- a request that writes no cell below n
 abbrev pub Quiet : ℕ → Request → Type 0
@@ -203,8 +148,13 @@ pub remove-done : (z : Here) (r n : ℕ) (d : Bool) → goingOn (afterRemove2 z 
 remove-done z r n true = refl
 remove-done z r n false = refl
 
-pub placed-below : (x : Tables) (m : Meaning) → Placed x m → Below (x .settings .roots) m m
-placed-below x m p = record { cells = λ r lt. refl; writes = p .writes }
+-- a remove that was done found in the root a node that was published there
+pub remove-was : (x : Tables) (m m′ : Meaning) (t r n : ℕ) (k : Told) → Placed x m → FitsAt (x .settings) (remove2 r n) → Meets t (request (here x m t) (remove2 r n)) m m′ k → doneTold k ≡ true → nodeOf x n ≡ Published r
+remove-was x m m′ t r n k p f (b, told, done) e =
+    let c : b ≡ true = sym (ap doneTold told) ∙ e in
+    let held : cell (done .between) r ≡ n = eqb-true (cell (done .between) r) n (sym (done .answer) ∙ c) in
+    let was : cell m r ≡ n = sym (below-lands (x .settings .roots) m (done .lands) (placed-below x m p) .cells r (f .0)) ∙ held in
+    rw was at (p .rooted r (f .0) (rw was (f .1)))
 
 module _ (b : ℕ) (h : List Event) (x : Tables) (m : Meaning) (p : Placed x m) (shown : Shown b h x) (t : ℕ) (inside : t < x .settings .threads) (m′ : Meaning) (a : Answer) (k : Told) where
   -- an exchange on a root, under an answer that tells whether it was done
@@ -242,27 +192,13 @@ module _ (b : ℕ) (h : List Event) (x : Tables) (m : Meaning) (p : Placed x m) 
       go (removes {root} {n} f) = rw f (remove-shown root n f (rw f at w) (rw f at ans) r)
       go (still s) = still-shown (threadOf x t .point) s w r
 
-pub new-cell : (m : Meaning) → isNew m ≡ true → (c : ℕ) → cell m c ≡ 0
-new-cell m e c =
-    let q = and-parts (eqb (m .clock) 0) _ e in
-    let zeros = and-parts (nothingWaits m) (cellsAreZero m) (q .1) .1 in
-    at zeros (cases-lt c (length (m .cells)))
-  where
-    at : cellsAreZero m ≡ true → (c < length (m .cells)) ⊎ (length (m .cells) ≤ c) → cell m c ≡ 0
-    at z (inl lt) = eqb-true (cell m c) 0 (all-of-at (λ (v : ℕ). eqb v 0) 0 (m .cells) z c lt)
-    at z (inr le) = getD-past (m .cells) c 0 le
-
 roots-after : (b : ℕ) (h : List Event) (s s′ : State) {c : Call} {a : Answer} {k : Told} → Inv s → ((x : Tables) → s .tables ≡ Some x → Shown b h x) → Trans s s′ c a k → RootsShown h s
     → (r : ℕ) → rootAfter c a h r (rootIn h r) ≡ rootOr (s′ .tables) (s′ .memory) r
 roots-after b h s s′ {k = k} i shown (refuses {c} {e} f g) rs r = rw g (refused-root h c e k r ∙ rs r)
 roots-after b h s s′ i shown (setsUp {z} f g j) rs r =
     let was : rootIn h r ≡ 0 = rw (set-up-passed z s f .first) at (rs r) in
-    let now = new-cell (s .memory) (set-up-passed z s f .new) r in
-    rw (j, g, was, now) (cond-same (ltb r (z .roots)))
-  where
-    cond-same : (y : Bool) → _≡_ {A = ℕ} 0 (cond y 0 0)
-    cond-same true = refl
-    cond-same false = refl
+    let now = new-blank (s .memory) (i .sound) (set-up-passed z s f .new) r in
+    rw (j, g, was, now) (sym (cond-same (ltb r (z .roots)) 0))
 roots-after b h s s′ i shown (ticks {x} e f w) rs r =
     let y = w .memory in
     let still = below-ticked (x .settings .roots) (s .memory) (y .between) (below-lands (x .settings .roots) (s .memory) (y .lands) (placed-below x (s .memory) (i .placed x e))) in

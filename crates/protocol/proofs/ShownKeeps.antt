@@ -1,28 +1,24 @@
 -- Every call leaves tables that show the history with the call. Assumes nothing.
-use mathlib.Core.Bool.{true, false, cond, not, _&&_}
+use mathlib.Core.Bool.{true, false, cond, _&&_}
 use mathlib.Core.List.{List, [], _∷_}
 use mathlib.Core.Logic.{_⊎_, inl, inr, _≢_}
 use mathlib.Core.Path.{_≡_, refl, sym, ap, subst, _∙_}
-use Prim.Native.Nat.{ℕ, zero, suc, _+_, _<_, _≤_}
+use Prim.Native.Nat.{ℕ, _+_, _<_}
 use native.Mathlib.Omega.{arith}
 use lib.Dec.{eqb, leb, ltb}
-use lib.ListN.{length, getD, set, replicate}
+use lib.ListN.{length, getD, set}
 use Rattle.std.proofs.shelf.Lists.{getD-set-same, getD-set-other}
-use Rattle.std.proofs.shelf.Tests.{cases-eq, ne-eqb, eqb-true, ltb-true, leb-true, and-parts}
+use Rattle.std.proofs.shelf.Tests.{cases-eq, ne-eqb, leb-true, and-parts}
 use Rattle.std.specs.declared.option.Option.{Option}
 use Rattle.std.specs.declared.option.Option.the-variants.{Some, None}
-use Rattle.std.specs.shelf.Lists.{All}
-use Rattle.memory.specs.declared.write.Write.{Write}
-use Rattle.memory.specs.Landings.{Lands}
-use Rattle.memory.specs.Meaning.{Meaning, queue, cell, landed, isNew}
-use Rattle.memory.proofs.Views.{Popped, landed-cases, lands-keep}
+use Rattle.memory.specs.Meaning.{Meaning}
 use Rattle.protocol.specs.declared.answer.Answer.{Answer}
 use Rattle.protocol.specs.declared.answer.Answer.the-variants.{Done, Refused}
 use Rattle.protocol.specs.declared.answer.Refusal.{Refusal}
 use Rattle.protocol.specs.declared.call.Call.{Call}
 use Rattle.protocol.specs.declared.call.Call.the-variants.{SetUp, Tick, Land, Begin, Step}
 use Rattle.protocol.specs.declared.node.NodeState.{NodeState}
-use Rattle.protocol.specs.declared.node.NodeState.the-variants.{Free, Taken, Published}
+use Rattle.protocol.specs.declared.node.NodeState.the-variants.{Free, Taken}
 use Rattle.protocol.specs.declared.operation.Operation.{Operation}
 use Rattle.protocol.specs.declared.operation.Operation.the-variants.{Protect, Copy, Release, Publish, Remove, Reclaim, OwnerLock, OwnerUnlock, OtherLock, OtherUnlock}
 use Rattle.protocol.specs.declared.settings.Settings.{Settings}
@@ -30,13 +26,16 @@ use Rattle.protocol.specs.Begin.{named, fits, takes, startOf, begun}
 use Rattle.protocol.specs.Guarantees.{Explains, Tables-show-the-history}
 use Rattle.protocol.specs.History.{Event, event, takenBy, stateIn, settingsIn}
 use Rattle.protocol.specs.Steps.{Told, doneTold, Outcome, movedTo, request, after}
-use Rattle.protocol.specs.Tables.{Thread, Tables, State, doingAt, remove2, idleThread, threadOf, nodeOf, firstTables}
+use Rattle.protocol.specs.Tables.{Thread, Tables, State, remove2, idleThread, threadOf, nodeOf, firstTables}
 use Rattle.protocol.specs.Transition.{Trans, refuses, setsUp, ticks, lands, begins, steps, beginAsks, stepAsks, Meets, here, counted, stepped}
 use Rattle.protocol.proofs.BoundStays.{bound-stays}
+use Rattle.protocol.proofs.FirstState.{replicated, same-all}
 use Rattle.protocol.proofs.Passed.{rest-passed, set-up-passed, begin-passed, step-passed}
 use Rattle.protocol.proofs.Placed.{FitsAt, Shaped, Placed, Inv}
 use Rattle.protocol.proofs.PlacedKeeps.{keeps}
+use Rattle.protocol.proofs.PlacedNodes.{in-range}
 use Rattle.protocol.proofs.Refusals.{refused-doing, refused-guard, refused-inside, refused-list, refused-state, refused-settings}
+use Rattle.protocol.proofs.Roots.{remove-was}
 use Rattle.protocol.proofs.Shown.{Shown, Untouched}
 use Rattle.protocol.proofs.StepRows.{getD-set, Leaves, step-leaves}
 use Rattle.protocol.proofs.ThreadRows.{Row, SameFor, row-same, same-refused, same-setUp, same-tick, same-land, same-begin, same-step, row-begins}
@@ -81,16 +80,11 @@ shown-land b h x u k s =
 
 -- Set-up.
 
-replicated : {A : Type 0} (P : A → Type 0) (n i : ℕ) (a d : A) → P a → P d → P (getD (replicate n a) i d)
-replicated P zero i a d p q = q
-replicated P (suc n) zero a d p q = p
-replicated P (suc n) (suc i) a d p q = replicated P n i a d p q
-
 idle-row : (b : ℕ) (h : List Event) (t hazards : ℕ) → Untouched h → Row b h t (idleThread hazards)
 idle-row b h t hazards v =
     record {
       doing = sym (v .doing t);
-      guards = λ i. replicated (λ (g : ℕ). g ≡ 0) hazards i 0 0 refl refl ∙ sym (v .guards t i);
+      guards = λ i. same-all hazards i 0 ∙ sym (v .guards t i);
       lists = sym (v .lists b t);
       inside = sym (v .inside t);
       known = tt;
@@ -101,7 +95,7 @@ shown-setUp b h z k v =
     from-rows b (event (SetUp z) Done k ∷ h) (firstTables z)
     (λ t. row-same b h (event (SetUp z) Done k ∷ h) t (threadOf (firstTables z) t) (same-setUp h z Done k t)
     (replicated (Row b h t) (z .threads) t (idleThread (z .hazards)) (idleThread 0) (idle-row b h t (z .hazards) v) (idle-row b h t 0 v)))
-    (λ n. replicated (λ (y : NodeState). y ≡ Free) (z .nodes + 1) n Free Free refl refl ∙ sym (v .nodes b n))
+    (λ n. same-all (z .nodes + 1) n Free ∙ sym (v .nodes b n))
     refl
 
 -- Begins.
@@ -133,39 +127,9 @@ shown-begin b h x u o y z k p e shape lt f s =
 
 -- Steps.
 
--- roots are written by exchanges alone, so that landings leave them
-lands-root : (m m′ : Meaning) (roots c : ℕ) → Lands m m′ → ((t : ℕ) → All (λ (w : Write). roots ≤ w .cell) (queue m t)) → c < roots → cell m′ c ≡ cell m c
-lands-root m m′ roots c l ws lt = lands-keep Good keep l (ws, refl) .1
-  where
-    Good : Meaning → Type 0
-    Good y = ((t : ℕ) → All (λ (w : Write). roots ≤ w .cell) (queue y t)) × (cell y c ≡ cell m c)
-
-    keep : (t : ℕ) (y : Meaning) → Good y → Good (landed t y)
-    keep t y g = elim (landed-cases t y) [ inl e ↦ rw e g | inr p ↦ (λ u. rest p u (cases-eq u t), p .elsewhere c (λ e. away p e) ∙ g .1) ]
-      where
-        oldest : (p : Popped t y (landed t y)) → All (λ (w : Write). roots ≤ w .cell) (p .write ∷ p .rest)
-        oldest p = rw (p .was) at (g .0 t)
-
-        away : (p : Popped t y (landed t y)) → c ≡ p .write .cell → ⊥
-        away p e = let above = oldest p .0 in omega arith
-
-        rest : Popped t y (landed t y) → (u : ℕ) → (u ≡ t) ⊎ (u ≢ t) → All (λ (w : Write). roots ≤ w .cell) (queue (landed t y) u)
-        rest p u (inl e) = rw (e, p .left) (oldest p .1)
-        rest p u (inr ne) = rw (p .others u ne) (g .0 u)
-
-published-inside : (ns : List NodeState) (n r : ℕ) → getD ns n Free ≡ Published r → n < length ns
-published-inside [] n r e = let z : _≡_ {A = ℕ} 0 1 = cc in absurd (omega arith)
-published-inside (x ∷ ns) zero r e = omega arith
-published-inside (x ∷ ns) (suc n) r e = let lt = published-inside ns n r e in omega arith
-
 -- a remove that was done had found a node that there is
 found-inside : (x : Tables) (m m′ : Meaning) (u r n : ℕ) (k : Told) → Placed x m → FitsAt (x .settings) (remove2 r n) → Meets u (request (here x m u) (remove2 r n)) m m′ k → doneTold k ≡ true → n < length (x .nodes)
-found-inside x m m′ u r n k p f (b, told, done) e =
-    let c : b ≡ true = sym (ap doneTold told) ∙ e in
-    let held : cell (done .between) r ≡ n = eqb-true (cell (done .between) r) n (sym (done .answer) ∙ c) in
-    let was : cell m r ≡ n = sym (lands-root m (done .between) (x .settings .roots) r (done .lands) (p .writes) (f .0)) ∙ held in
-    let some : 0 < cell m r = rw was (f .1) in
-    published-inside (x .nodes) n r (rw was at (p .rooted r (f .0) some))
+found-inside x m m′ u r n k p f w e = in-range (x .nodes) n (λ g. let h = remove-was x m m′ u r n k p f w e in let z : _≡_ {A = ℕ} 0 1 = cc in omega arith)
 
 shown-step : (h : List Event) (x : Tables) (m m′ : Meaning) (u : ℕ) (k : Told) → Placed x m → u < x .settings .threads → Meets u (request (here x m u) (threadOf x u .point)) m m′ k
     → Shown (m .bound) h x → Shown (m .bound) (event (Step u) (after (here x m u) (threadOf x u .point) k .answer) k ∷ h) (counted (stepped x u (after (here x m u) (threadOf x u .point) k)))

@@ -3,12 +3,12 @@ use mathlib.Core.Bool.{Bool, true, false, cond}
 use mathlib.Core.List.{List, [], _∷_, _++_}
 use mathlib.Core.Logic.{_⊎_, inl, inr}
 use mathlib.Core.Path.{_≡_, refl, sym, ap, _∙_}
-use Prim.Native.Nat.{ℕ, zero, suc, _+_, _<_, _≤_}
+use Prim.Native.Nat.{ℕ, _+_, _<_, _≤_}
 use native.Mathlib.Omega.{arith}
 use lib.Dec.{eqb, ltb}
 use lib.ListN.{length, getD, set}
 use Rattle.std.proofs.shelf.Lists.{getD-set-same, getD-set-other}
-use Rattle.std.proofs.shelf.Tests.{cases-eq, eq-eqb, ne-eqb, lt-ltb}
+use Rattle.std.proofs.shelf.Tests.{cases-eq, eq-eqb, ne-eqb}
 use Rattle.protocol.specs.declared.answer.Answer.{Answer}
 use Rattle.protocol.specs.declared.answer.Answer.the-variants.{Done, GoingOn, Ended, Empty, Moved, Occupied}
 use Rattle.protocol.specs.declared.node.NodeState.{NodeState}
@@ -17,11 +17,10 @@ use Rattle.protocol.specs.declared.call.Call.the-variants.{Step}
 use Rattle.protocol.specs.declared.retired.Retired.{Retired}
 use Rattle.protocol.specs.History.{Event, event, accepted, answered, doingBy, doingIn, guardStep, guardIn, insideStep, insideIn, isReclaim, isRemove, sweepClockIn, loadedIn, removingIn, listIn, names, stateStep, stateIn}
 use Rattle.protocol.specs.Settings.{hazardCells}
-use Rattle.protocol.specs.Steps.{Told, clockTold, valueTold, doneTold, Here, Outcome, goesOn, ends, stays, stops, guarding, entering, leaving, guardOf, marked, kept, freed, freeing, versionOf, lowered, waited, after}
+use Rattle.protocol.specs.Steps.{Told, clockTold, valueTold, doneTold, Here, Outcome, goesOn, ends, stays, stops, guarding, entering, leaving, guardOf, marked, kept, freed, versionOf, lowered, waited, after}
 use Rattle.protocol.specs.Tables.{Point, Doing, doingAt, idle, protect1, protect2, protect3, protect4, copy1, release1, publish1, remove1, remove2, remove3, reclaim1, reclaim2, reclaim3, ownerLock1, ownerLock2, ownerLock3, ownerLock4, ownerLock5, ownerUnlock1, ownerUnlock2, ownerUnlock3, ownerUnlock4, otherLock1, otherLock2, otherLock3, otherLock4, otherLock5, otherLock6, otherLock7, otherLock8, otherUnlock1, otherUnlock2, otherUnlock3}
 use Rattle.protocol.proofs.Placed.{FitsAt}
 use Rattle.protocol.proofs.PlacedNodes.{freeing-at}
-use Rattle.protocol.proofs.Refusals.{cond-same}
 use Rattle.protocol.proofs.Shown.{KnownAt}
 use Rattle.protocol.proofs.ThreadRows.{Row}
 
@@ -33,20 +32,6 @@ getD-set l i j a d lt = at (cases-eq i j)
     at : (i ≡ j) ⊎ (i ≡ j → ⊥) → getD (set l i a) j d ≡ cond (eqb i j) a (getD l j d)
     at (inl e) = rw (eq-eqb i j e, ← e) (getD-set-same l i a d lt)
     at (inr ne) = rw (ne-eqb i j ne) (getD-set-other l i j a d (λ e. ne (sym e)))
-
-set-default : {A : Type 0} (l : List A) (i : ℕ) (d : A) → getD (set l i d) i d ≡ d
-set-default [] zero d = refl
-set-default [] (suc i) d = refl
-set-default (x ∷ l) zero d = refl
-set-default (x ∷ l) (suc i) d = set-default l i d
-
--- to the default, whatever the place
-pub getD-set-default : {A : Type 0} (l : List A) (i j : ℕ) (d : A) → getD (set l i d) j d ≡ cond (eqb i j) d (getD l j d)
-getD-set-default l i j d = at (cases-eq i j)
-  where
-    at : (i ≡ j) ⊎ (i ≡ j → ⊥) → getD (set l i d) j d ≡ cond (eqb i j) d (getD l j d)
-    at (inl e) = rw (eq-eqb i j e, ← e) (set-default l i d)
-    at (inr ne) = rw (ne-eqb i j ne) (getD-set-other l i j d d (λ e. ne (sym e)))
 
 -- what a step leaves, against the history with the step
 pub record Leaves (h : List Event) (k : Told) (x : Here) (o : Outcome) : Type 0 where

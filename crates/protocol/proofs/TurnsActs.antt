@@ -12,10 +12,11 @@ use Rattle.memory.specs.Meaning.{newest, valueOr}
 use Rattle.protocol.specs.declared.settings.Settings.{Settings}
 use Rattle.protocol.specs.Settings.{lockCell, flag1Cell}
 use Rattle.protocol.specs.Tables.{Point, idle, ownerLock1, ownerLock2, ownerLock3, ownerLock4, ownerLock5, ownerUnlock1, ownerUnlock2, ownerUnlock3, ownerUnlock4, otherLock1, otherLock2, otherLock3, otherLock4, otherLock5, otherLock6, otherLock7, otherLock8, otherUnlock1, otherUnlock2, otherUnlock3}
+use Rattle.protocol.proofs.LockFacts.{side, node-side, raised-side, who-owner, who-other, not-third, not-last}
 use Rattle.protocol.proofs.LockView.{LockState, NodePoint, sees0, sees1, Same, StoresOne, TakesLock, Goes, Acts, node, beginsOwnerLock, beginsOwnerUnlock, beginsOtherLock, beginsOtherUnlock, owner1, owner2in, owner2, owner3, owner4in, owner4, owner5, ownerU1low, ownerU1, ownerU2, ownerU3, ownerU4, other1in, other1, other2, other3, other4, other5, other6past, other6, other7echo, other7, other8in, other8, otherU1, otherU2, otherU3}
 use Rattle.protocol.proofs.Locked.{flag1Write, releaseWrite, Away, elsewhere, asks, RaisedAt, raised5, raised6, raised7, raised8, InsideAt, leaves1, leaves2, Other, away, enters2, enters3, raising, raised, within, lowering, lowered, releasing2, releasing, OwnerLock, without, has, gives, Holds, slow, last, releaseCount, OwnerAt, locks1, locks2, locks3, locks4, locks5, unlocks2, unlocks3, unlocks4, Turns, Owned}
-use Rattle.protocol.proofs.TurnsCarry.{OwnerHere, owner-here, place-here, stays-takes, owner-goes, other-goes, other-same, other-stores, owner-same, owner-flags, owner-frees}
-use Rattle.protocol.proofs.TurnsParts.{away-of, side, node-side, raised-side, who-owner, who-other, not-third, not-last, At, onNode, at2, at3, at4waits, at4, at5, at6, at7, at8, unlock1, unlock2, unlock3waits, unlock3, at-of}
+use Rattle.protocol.proofs.TurnsCarry.{owner-here, place-here, stays-takes, owner-goes, other-goes, other-same, other-stores, owner-same, owner-flags, owner-frees}
+use Rattle.protocol.proofs.TurnsParts.{away-of, owner-without, At, onNode, at2, at3, at4waits, at4, at5, at6, at7, at8, unlock1, unlock2, unlock3waits, unlock3, at-of}
 
 -- The owner.
 
@@ -177,14 +178,9 @@ takes-other {z} {a} {a′} t pos g k h =
     let gone = away-of (λ e. omega arith) (h .others t pos) in
     let even = h .quiet (inl (k .was)) in
     let ne : 0 ≢ t = λ e. omega arith in
-    other-goes t g h pos (stays-takes t g h k) (rw (k .flag0, k .writes 0, g .points 0 ne, g .insides 0 ne) (owner (h .owner))) (not-third otherLock2 refl)
+    other-goes t g h pos (stays-takes t g h k) (rw (k .flag0, k .writes 0, g .points 0 ne, g .insides 0 ne) (owner-without (λ e. omega arith) (λ e. omega arith) (h .owner))) (not-third otherLock2 refl)
     (rw (k .writes t, k .none) tt)
     (rw (k .lock, k .flag1, k .writes t) (enters2 (even .0) refl refl (gone .1) (gone .2) (even .1)))
-  where
-    owner : OwnerHere z a 0 → OwnerLock (a′ .sight .lock) (sees0 z (a .sight) 0) (a .point 0) (a .inside 0) (releaseCount z (a .sight .writes 0))
-    owner (without l w no-hold) = without (λ e. omega arith) w no-hold
-    owner (has l w hold) = absurd (omega arith)
-    owner (gives l w no-hold) = absurd (omega arith)
 
 takes-owner : {z : Settings} {a a′ : LockState} (t : ℕ) → t ≡ 0 → a .point t ≡ ownerLock4 → Goes t a a′ idle true → TakesLock t 1 (a .sight) (a′ .sight) → Turns z a → Owned z a → Turns z a′
 takes-owner {z} {a} {a′} t e0 e g k h o =

@@ -14,9 +14,10 @@ use Rattle.memory.specs.declared.write.Write.{Write}
 use Rattle.protocol.specs.declared.settings.Settings.{Settings}
 use Rattle.protocol.specs.Settings.{lockCell, flag0Cell}
 use Rattle.protocol.specs.Tables.{Point, otherLock3}
+use Rattle.protocol.proofs.LockFacts.{flag0-not-lock, lock-not-flag0, same-cell, sees-stored, sees-own, side, not-third}
 use Rattle.protocol.proofs.LockView.{Sight, LockState, sees0, Same, StoresOne, TakesLock, Goes}
 use Rattle.protocol.proofs.Locked.{Other, OwnerLock, releaseCount, OwnerAt, Turns, Owned}
-use Rattle.protocol.proofs.TurnsParts.{flag0-not-lock, lock-not-flag0, same-cell, sees-stored, count-stored, still-away, side, not-third}
+use Rattle.protocol.proofs.TurnsParts.{count-stored, still-away}
 
 -- an action of thread t that leaves L and the flags as they are
 pub record Calm (t : ℕ) (v v′ : Sight) : Type 0 where
@@ -153,7 +154,7 @@ module _ {z : Settings} {a a′ : LockState} (t : ℕ) {p′ : Point} {i′ : Bo
   owner-flags n e s k o = owner-goes e (stays-calm (calm-stores t (flag0Cell z) n s)) k (rw (s .lock, sees, count) o)
     where
       sees : sees0 z (a′ .sight) t ≡ n
-      sees = rw (sees-stored z t (flag0Cell z) n (a .sight) (a′ .sight) s, same-cell (flag0Cell z)) refl
+      sees = sees-own z t n (a .sight) (a′ .sight) s
 
       count : releaseCount z (a′ .sight .writes t) ≡ releaseCount z (a .sight .writes t)
       count = rw (count-stored z t (flag0Cell z) n (a .sight) (a′ .sight) s, flag0-not-lock z) (omega arith)

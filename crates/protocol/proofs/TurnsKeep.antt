@@ -11,10 +11,11 @@ use Rattle.memory.specs.declared.write.Write.{Write}
 use Rattle.protocol.specs.declared.settings.Settings.{Settings}
 use Rattle.protocol.specs.Settings.{lockCell, flag0Cell, flag1Cell}
 use Rattle.protocol.specs.Tables.{otherLock3}
-use Rattle.protocol.proofs.LockView.{LockState, sees0, Same, LandsOne, TicksOn, Still}
-use Rattle.protocol.proofs.Locked.{Away, Other, away, enters2, enters3, raising, raised, within, lowering, lowered, releasing2, releasing, raised4, flag1Write, releaseWrite, OwnerLock, without, has, gives, OwnerWrite, flags, releases, releaseCount, Turns, Owned}
+use Rattle.protocol.proofs.LockFacts.{flag0-not-lock, flag1-not-lock, flag1-not-flag0, flag0-not-flag1, lock-not-flag0, lock-not-flag1, same-cell, sees-landed}
+use Rattle.protocol.proofs.LockView.{LockState, Same, LandsOne, TicksOn, Still}
+use Rattle.protocol.proofs.Locked.{Away, Other, away, enters2, enters3, raising, raised, within, lowering, lowered, releasing2, releasing, raised4, flag1Write, releaseWrite, without, has, gives, OwnerWrite, flags, releases, releaseCount, Turns, Owned}
 use Rattle.protocol.proofs.TurnsCarry.{Small, small-more, OwnerHere, owner-here}
-use Rattle.protocol.proofs.TurnsParts.{flag0-not-lock, flag1-not-lock, flag1-not-flag0, flag0-not-flag1, lock-not-flag0, lock-not-flag1, same-cell, sees-landed, still-away}
+use Rattle.protocol.proofs.TurnsParts.{still-away, owner-without}
 
 -- what stays with the points and the number of calls
 module _ {z : Settings} {a a′ : LockState} (still : Still a a′) (h : Turns z a) where
@@ -137,7 +138,7 @@ module _ {z : Settings} {a a′ : LockState} (t : ℕ) (l : LandsOne z t (a .sig
   frees pos is c v none aw i w f1 =
       record {
         others = λ u le. at u le (cases-eq u t);
-        owner = let ne : 0 ≢ t = λ f. omega arith in rw (same-flag0, still .point 0, still .inside 0, l .others 0 ne) (owner (h .owner));
+        owner = let ne : 0 ≢ t = λ f. omega arith in rw (same-flag0, still .point 0, still .inside 0, l .others 0 ne) (owner-without (λ f. omega arith) (λ f. omega (arith, free)) (h .owner));
         quiet = λ f. (w, same-flag1 ∙ f1);
         few = let k = h .few in let g = still .count in rw same-flag1 (omega arith);
         fewKept = kept-on still h;
@@ -156,11 +157,6 @@ module _ {z : Settings} {a a′ : LockState} (t : ℕ) (l : LandsOne z t (a .sig
       at : (u : ℕ) → 1 ≤ u → (u ≡ t) ⊎ (u ≢ t) → Other z (a′ .sight .lock) (a′ .sight .flag1) u (a′ .point u) (a′ .inside u) (a′ .sight .writes u)
       at u le (inl f) = rw (f, still .point t, still .inside t, l .left) (away (λ g. omega (arith, free)) aw i none)
       at u le (inr ne) = rw (still .point u, still .inside u, l .others u ne) (still-away (λ f. ne (omega arith)) (λ f. omega (arith, free)) (h .others u le))
-
-      owner : OwnerHere z a 0 → OwnerLock (a′ .sight .lock) (sees0 z (a .sight) 0) (a .point 0) (a .inside 0) (releaseCount z (a .sight .writes 0))
-      owner (without n k no-hold) = without (λ f. omega (arith, free)) k no-hold
-      owner (has n k hold) = absurd (omega arith)
-      owner (gives n k no-hold) = absurd (omega arith)
 
   -- what lands, by what thread t from 1 on is about
   lands-other : 1 ≤ t → Other z (a .sight .lock) (a .sight .flag1) t (a .point t) (a .inside t) (a .sight .writes t) → Turns z a′

@@ -13,7 +13,8 @@ use Rattle.protocol.specs.declared.call.Call.the-variants.{SetUp, Tick, Land, 
 use Rattle.protocol.specs.declared.node.NodeState.{NodeState}
 use Rattle.protocol.specs.declared.node.NodeState.the-variants.{Free, Taken, Published, Removed, Retired as RetiredBy}
 use Rattle.protocol.specs.declared.operation.Operation.the-variants.{Publish}
-use Rattle.protocol.specs.History.{Event, accepted, doingIn, guardIn, insideIn, isReclaim, isRemove, sweepClockIn, removingIn, listIn, names, timesFreed, timesRetired, stateIn, rootIn, settingsIn, cellsOf, lastRetiredIn}
+use Rattle.protocol.specs.Begin.{isFree}
+use Rattle.protocol.specs.History.{Event, accepted, doingIn, guardIn, insideIn, isReclaim, isRemove, sweepClockIn, removingIn, listIn, names, timesFreed, timesRetired, stateIn, freeIn, rootIn, settingsIn, cellsOf, lastRetiredIn}
 use Rattle.protocol.specs.Steps.{guardOf}
 use Rattle.protocol.specs.Tables.{Doing, busy, doingAt, Tables, State, threadOf, nodeOf}
 use Rattle.protocol.specs.Transition.{Trans}
@@ -53,6 +54,8 @@ isRetired (Removed u) = false
 isRetired (RetiredBy u) = true
 
 pub record InOnePlace (b : ℕ) (h : List Event) (n : ℕ) : Type 0 where
+  -- its place is "free" exactly while it is free
+  pub free : freeIn b h n ≡ isFree (stateIn b h n)
   -- a publish of the node goes on in the thread that has taken it, and in no other
   pub taken : (t r : ℕ) → doingIn h t ≡ busy (Publish r n) 1 → stateIn b h n ≡ Taken t
   -- the root at which it is published holds it, and no other does
@@ -94,3 +97,21 @@ A-late-sweep-leaves-a-short-list = (h : List Event) (s : State) → Explains h s
 -- At most one thread is inside the lock.
 abbrev pub At-most-one-inside : Type 0
 At-most-one-inside = (h : List Event) (s : State) → Explains h s → (t u : ℕ) → insideIn h t ≡ true → insideIn h u ≡ true → t ≡ u
+
+-- No node is free while a guard on it stands.
+abbrev pub No-node-free-while-guarded : Type 0
+No-node-free-while-guarded = (h : List Event) (s : State) → Explains h s → (t i : ℕ) → 0 < guardIn h t i → freeIn (s .memory .bound) h (guardIn h t i) ≡ false
+
+-- The whole guarantee of a history over a memory with bound b, for nodes, lock and lists.
+pub record Guarantees (b : ℕ) (h : List Event) : Type 0 where
+  -- no node is free while a guard on it stands
+  pub guarded : (t i : ℕ) → 0 < guardIn h t i → freeIn b h (guardIn h t i) ≡ false
+  -- every node is in one place
+  pub placed : (n : ℕ) → 0 < n → InOnePlace b h n
+  -- at most one thread is inside the lock
+  pub alone : (t u : ℕ) → insideIn h t ≡ true → insideIn h u ≡ true → t ≡ u
+  -- every late sweep left a short list
+  pub short : ShortLists b h
+
+abbrev pub The-guarantees : Type 0
+The-guarantees = (h : List Event) (s : State) → Explains h s → Guarantees (s .memory .bound) h

@@ -19,7 +19,7 @@ use Rattle.protocol.specs.declared.operation.Operation.{Operation}
 use Rattle.protocol.specs.declared.operation.Operation.the-variants.{Protect, Copy, Release, Publish, Remove, Reclaim, OwnerLock, OwnerUnlock, OtherLock, OtherUnlock}
 use Rattle.protocol.specs.declared.retired.Retired.{Retired}
 use Rattle.protocol.specs.declared.settings.Settings.{Settings}
-use Rattle.protocol.specs.Begin.{named, isFree}
+use Rattle.protocol.specs.Begin.{named}
 use Rattle.protocol.specs.Settings.{hazardCells}
 use Rattle.protocol.specs.Steps.{Told, clockTold, valueTold, doneTold, kept, freed}
 use Rattle.protocol.specs.Tables.{Doing, nothing, busy}
@@ -294,8 +294,39 @@ abbrev pub stateIn : ℕ → List Event → ℕ → NodeState
 stateIn b [] n = Free
 stateIn b (e ∷ h) n = stateAfter b (e .call) (e .answer) h n (stateIn b h n)
 
+-- Which nodes are free: every node at first; not from the begin of its publish on; again after code 5 to that publish, and once a
+-- sweep has freed it.
+
+abbrev pub isPublishOf : ℕ → Operation → Bool
+isPublishOf n (Protect r h) = false
+isPublishOf n (Copy x y) = false
+isPublishOf n (Release h) = false
+isPublishOf n (Publish r m) = eqb m n
+isPublishOf n (Remove r) = false
+isPublishOf n Reclaim = false
+isPublishOf n OwnerLock = false
+isPublishOf n OwnerUnlock = false
+isPublishOf n OtherLock = false
+isPublishOf n OtherUnlock = false
+
+abbrev pub publishBegun : ℕ → Option Operation → Bool
+publishBegun n None = false
+publishBegun n (Some o) = isPublishOf n o
+
+abbrev pub publishing : ℕ → Doing → Bool
+publishing n nothing = false
+publishing n (busy o k) = isPublishOf n o
+
+abbrev pub freeAfter : ℕ → Call → Answer → List Event → ℕ → Bool → Bool
+freeAfter b (SetUp z) a h n was = was
+freeAfter b Tick a h n was = was
+freeAfter b (Land u) a h n was = was
+freeAfter b (Begin u o x y) a h n was = cond (accepted a && publishBegun n (named o x y)) false was
+freeAfter b (Step u) a h n was = cond (ltb 0 (names n (freedBy b (Step u) a h)) || (wasOccupied a && publishing n (doingIn h u))) true was
+
 abbrev pub freeIn : ℕ → List Event → ℕ → Bool
-freeIn b h n = isFree (stateIn b h n)
+freeIn b [] n = true
+freeIn b (e ∷ h) n = freeAfter b (e .call) (e .answer) h n (freeIn b h n)
 
 -- Roots: a publish that ended well puts its node there, and step 2 of a remove that goes on takes it away.
 

@@ -47,7 +47,7 @@ shortLists = setting 2 1 1 2 2 ∷ []
 abbrev pub downwardCopy : List Call
 downwardCopy = setting 2 2 1 2 5 ∷ Begin 0 2 1 0 ∷ []
 
--- Eight stores wait: four protects of an owner lock and unlock fill the buffer, and the ninth store is refused.
+-- Four times the owner locks and unlocks: eight stores wait, and the ninth is refused.
 abbrev pub fullBuffer : List Call
 fullBuffer =
     setting 2 1 1 2 3

@@ -32,7 +32,7 @@ pub enum Answer {
     Ended(u64),
     // the root held no node
     Empty,
-    // the root held another node by then
+    // the root no longer held that node
     Moved,
     // the root held a node already, and this one is free again
     Occupied(u64),
