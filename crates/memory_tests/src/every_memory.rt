@@ -4,7 +4,7 @@ use memory::refusal::Refusal;
 use std::test::*;
 
 // The number of a refusal, and 0 of an accepted call.
-pub fn number<T: Copy>(answer: Result<T, Refusal>) -> u8 {
+pub(crate) fn number<T: Copy>(answer: Result<T, Refusal>) -> u8 {
     match answer {
         Ok(_) => 0,
         Err(refusal) => refusal.number(),
@@ -12,7 +12,7 @@ pub fn number<T: Copy>(answer: Result<T, Refusal>) -> u8 {
 }
 
 // Arguments out of range are refused with 1, however large, and a full buffer does not change that.
-pub fn refuses_out_of_range<M: Memory>(m: &mut M) -> Result<(), Fail> {
+pub(crate) fn refuses_out_of_range<M: Memory>(m: &mut M) -> Result<(), Fail> {
     check_eq(number(m.store(8, 0, 1)), 1)?;
     check_eq(number(m.store(0, 64, 1)), 1)?;
     check_eq(number(m.store(usize::MAX, usize::MAX, u64::MAX)), 1)?;
@@ -27,7 +27,7 @@ pub fn refuses_out_of_range<M: Memory>(m: &mut M) -> Result<(), Fail> {
 }
 
 // The clock ends at 1,000,000.
-pub fn ends_at_a_million<M: Memory>(m: &mut M) -> Result<(), Fail> {
+pub(crate) fn ends_at_a_million<M: Memory>(m: &mut M) -> Result<(), Fail> {
     for _ in 0..1_000_000 {
         check_eq(number(m.tick()), 0)?;
     }
@@ -36,7 +36,7 @@ pub fn ends_at_a_million<M: Memory>(m: &mut M) -> Result<(), Fail> {
 }
 
 // Eight writes fill a thread's buffer; the check of the range comes first.
-pub fn fills_a_buffer<M: Memory>(m: &mut M) -> Result<(), Fail> {
+pub(crate) fn fills_a_buffer<M: Memory>(m: &mut M) -> Result<(), Fail> {
     for cell in 0..8 {
         check_eq(number(m.store(7, cell, 1)), 0)?;
     }

@@ -113,7 +113,7 @@ guard-path s s′ x x′ (steps {t} {x = y} {a} {k} e f w) i o g h rd =
 -- Right after set-up.
 
 -- every thread is idle
-first-idle : (z : Settings) (t : ℕ) → (h : ℕ) × (threadOf (firstTables z) t ≡ idleThread h)
+pub first-idle : (z : Settings) (t : ℕ) → (h : ℕ) × (threadOf (firstTables z) t ≡ idleThread h)
 first-idle z t = at (cases-lt t (z .threads))
   where
     at : (t < z .threads) ⊎ (z .threads ≤ t) → (h : ℕ) × (threadOf (firstTables z) t ≡ idleThread h)

@@ -8,6 +8,7 @@ use native.Mathlib.Omega.{arith}
 use lib.Dec.{eqb}
 use Rattle.std.specs.declared.option.Option.{Option}
 use Rattle.std.specs.declared.option.Option.the-variants.{Some, None}
+use Rattle.std.specs.shelf.Sorted.{Rises}
 use Rattle.std.proofs.shelf.Tests.{cases-eq, cases-lt, eqb-true}
 use Rattle.memory.specs.Meaning.{Meaning}
 use Rattle.protocol.specs.declared.node.NodeState.{NodeState}
@@ -15,8 +16,8 @@ use Rattle.protocol.specs.declared.node.NodeState.the-variants.{Free, Taken, P
 use Rattle.protocol.specs.declared.retired.Retired.{Retired}
 use Rattle.protocol.specs.declared.settings.Settings.{Settings}
 use Rattle.protocol.specs.Begin.{isFree}
-use Rattle.protocol.specs.Guarantees.{Explains, No-node-free-while-guarded}
-use Rattle.protocol.specs.History.{Event, guardIn, freeIn, names}
+use Rattle.protocol.specs.Guarantees.{Explains, No-node-free-while-guarded, Lists-in-order}
+use Rattle.protocol.specs.History.{Event, guardIn, freeIn, listIn, names}
 use Rattle.protocol.specs.Tables.{Tables, State, nodeOf}
 use Rattle.protocol.proofs.FreeNodes.{free-in-place}
 use Rattle.protocol.proofs.Guarded.{InUse, Guarded}
@@ -24,10 +25,11 @@ use Rattle.protocol.proofs.GuardedKeep.{Facts, facts-still, guarded-same, guar
 use Rattle.protocol.proofs.GuardedSweep.{named-state}
 use Rattle.protocol.proofs.GuardMemory.{Owns}
 use Rattle.protocol.proofs.GuardOwns.{owns-keeps, owns-first}
-use Rattle.protocol.proofs.GuardPaths.{guard-path, guard-first}
+use Rattle.protocol.proofs.GuardPaths.{guard-path, guard-first, first-idle}
 use Rattle.protocol.proofs.GuardView.{GuardState, guardState, SameLists, Lists, Acts, GuardPath, plain, protects2, protects3, protects4, copies, releases, takes, publishes, occupied, removes, retires, scans1, scans2, sweeps, rests, lands, ticks, acts}
 use Rattle.protocol.proofs.Invariants.{FirstHolds, CallsKeep, settings-stay, always}
 use Rattle.protocol.proofs.LateSweeps.{named-once}
+use Rattle.protocol.proofs.ListDates.{Ordered, empty-ordered, path-ordered}
 use Rattle.protocol.proofs.Pigeons.{names-kept}
 use Rattle.protocol.proofs.PlacedNodes.{names-push}
 use Rattle.protocol.proofs.ShownKeeps.{explains-reached}
@@ -88,9 +90,11 @@ path-keeps z a′ a (acts t b lt w path) f g = path-keeps z a′ b path (facts-a
 pub record GuardInv (x : Tables) (m : Meaning) : Type 0 where
   pub guarded : Guarded (x .settings) (guardState x m)
   pub owns : Owns (x .settings) m
+  pub ordered : Ordered (guardState x m)
 
 guards-start : FirstHolds GuardInv
-guards-start z m new sound range = record { guarded = guard-first z m sound new; owns = owns-first z m sound new }
+guards-start z m new sound range =
+    record { guarded = guard-first z m sound new; owns = owns-first z m sound new; ordered = λ t. rw (first-idle z t .1) (empty-ordered (m .clock)) }
 
 guards-stay : CallsKeep GuardInv
 guards-stay s s′ c a k x x′ w inv e e′ i =
@@ -100,6 +104,7 @@ guards-stay s s′ c a k x x′ w inv e e′ i =
     record {
       guarded = subst (λ (z : Settings). Guarded z (guardState x′ (s′ .memory))) same (path-keeps (x .settings) (guardState x′ (s′ .memory)) (guardState x (s .memory)) path facts (i .guarded));
       owns = subst (λ (z : Settings). Owns z (s′ .memory)) same (owns-keeps s s′ x x′ w inv e e′ (i .owns));
+      ordered = path-ordered (x .settings) (guardState x′ (s′ .memory)) (guardState x (s .memory)) path (i .ordered);
     }
 
 pub explains-guarded : (h : List Event) (s : State) → Explains h s → (x : Tables) → s .tables ≡ Some x → GuardInv x (s .memory)
@@ -126,3 +131,14 @@ no-node-free-while-guarded h s w t i pos = go (s .tables) refl
         let shown = explains-reached h s w .shown x n .shows in
         let used = explains-guarded h s w x n .guarded .used t i (rw (shown .guards t i) pos) in
         free-in-place h s w (guardIn h t i) ∙ rw (sym (shown .nodes (guardIn h t i))) (used-kept (nodeOf x (guardIn h t i)) (rw (shown .guards t i) at used))
+
+-- Along a retire list the dates never fall.
+pub lists-in-order : Lists-in-order
+lists-in-order h s w t = go (s .tables) refl
+  where
+    b : ℕ
+    b = s .memory .bound
+
+    go : (o : Option Tables) → s .tables ≡ o → Rises (λ (e : Retired). e .date) (listIn b h t)
+    go None n = rw (explains-reached h s w .before n .lists b t) (empty-ordered 0 .rises)
+    go (Some x) n = rw (sym (explains-reached h s w .shown x n .shows .lists t)) (explains-guarded h s w x n .ordered t .rises)

@@ -18,6 +18,7 @@ pub mod Guards
 pub mod HeldRuns
 pub mod Invariants
 pub mod LateSweeps
+pub mod ListDates
 pub mod LockFacts
 pub mod LockFirst
 pub mod LockMemory

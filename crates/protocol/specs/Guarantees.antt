@@ -7,12 +7,14 @@ use lib.Dec.{eqb}
 use lib.ListN.{length}
 use Rattle.std.specs.declared.option.Option.{Option}
 use Rattle.std.specs.declared.option.Option.the-variants.{Some, None}
+use Rattle.std.specs.shelf.Sorted.{Rises}
 use Rattle.memory.specs.Calls.{Sound}
 use Rattle.protocol.specs.declared.call.Call.{Call}
 use Rattle.protocol.specs.declared.call.Call.the-variants.{SetUp, Tick, Land, Begin, Step}
 use Rattle.protocol.specs.declared.node.NodeState.{NodeState}
 use Rattle.protocol.specs.declared.node.NodeState.the-variants.{Free, Taken, Published, Removed, Retired as RetiredBy}
 use Rattle.protocol.specs.declared.operation.Operation.the-variants.{Publish}
+use Rattle.protocol.specs.declared.retired.Retired.{Retired}
 use Rattle.protocol.specs.Begin.{isFree}
 use Rattle.protocol.specs.History.{Event, accepted, doingIn, guardIn, insideIn, isReclaim, isRemove, sweepClockIn, removingIn, listIn, names, timesFreed, timesRetired, stateIn, freeIn, rootIn, settingsIn, cellsOf, lastRetiredIn}
 use Rattle.protocol.specs.Steps.{guardOf}
@@ -102,6 +104,10 @@ At-most-one-inside = (h : List Event) (s : State) → Explains h s → (t u : �
 abbrev pub No-node-free-while-guarded : Type 0
 No-node-free-while-guarded = (h : List Event) (s : State) → Explains h s → (t i : ℕ) → 0 < guardIn h t i → freeIn (s .memory .bound) h (guardIn h t i) ≡ false
 
+-- Along a retire list the dates never fall.
+abbrev pub Lists-in-order : Type 0
+Lists-in-order = (h : List Event) (s : State) → Explains h s → (t : ℕ) → Rises (λ (e : Retired). e .date) (listIn (s .memory .bound) h t)
+
 -- The whole guarantee of a history over a memory with bound b, for nodes, lock and lists.
 pub record Guarantees (b : ℕ) (h : List Event) : Type 0 where
   -- no node is free while a guard on it stands
@@ -110,6 +116,8 @@ pub record Guarantees (b : ℕ) (h : List Event) : Type 0 where
   pub placed : (n : ℕ) → 0 < n → InOnePlace b h n
   -- at most one thread is inside the lock
   pub alone : (t u : ℕ) → insideIn h t ≡ true → insideIn h u ≡ true → t ≡ u
+  -- along a retire list the dates never fall
+  pub ordered : (t : ℕ) → Rises (λ (e : Retired). e .date) (listIn b h t)
   -- every late sweep left a short list
   pub short : ShortLists b h
 
