@@ -58,12 +58,12 @@ isRetired (RetiredBy u) = true
 pub record InOnePlace (b : ℕ) (h : List Event) (n : ℕ) : Type 0 where
   -- its place is "free" exactly while it is free
   pub free : freeIn b h n ≡ isFree (stateIn b h n)
-  -- a publish of the node goes on in the thread that has taken it, and in no other
+  -- a thread in whose publish the node is has taken it (so no two threads publish it at once)
   pub taken : (t r : ℕ) → doingIn h t ≡ busy (Publish r n) 1 → stateIn b h n ≡ Taken t
   -- the root at which it is published holds it, and no other does
   pub published : (r : ℕ) → rootIn h r ≡ n → stateIn b h n ≡ Published r
   pub rooted : (r : ℕ) → stateIn b h n ≡ Published r → rootIn h r ≡ n
-  -- the thread that has removed it is to retire it, and no other is
+  -- a thread that is to retire it has removed it (so no two threads are to retire it)
   pub removed : (t : ℕ) → isRemove 3 (doingIn h t) ≡ true → removingIn h t ≡ n → stateIn b h n ≡ Removed t
   -- the list of the thread that retired it names it once, and no other list names it
   pub listed : (t : ℕ) → names n (listIn b h t) ≡ cond (retiredIn (stateIn b h n) t) 1 0
