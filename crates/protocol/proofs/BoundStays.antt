@@ -5,7 +5,7 @@ use Rattle.memory.specs.Meaning.{Meaning, cell, stored, landed, exchanged, ticke
 use Rattle.memory.proofs.Views.{lands_fixed, lands_clock, landed_fixed, landed_clock, exchanged_puts, exchanged_none, ticked_moves}
 use Rattle.protocol.specs.declared.answer.Answer.{Answer}
 use Rattle.protocol.specs.declared.call.Call.{Call}
-use Rattle.protocol.specs.Steps.{Request, asksLoad, asksStore, asksExchange, asksClock, asksFence, asksNothing, Told, request}
+use Rattle.protocol.specs.Steps.{Request, asks_load, asks_store, asks_exchange, asks_clock, asks_fence, asks_nothing, Told, request}
 use Rattle.protocol.specs.Tables.{State, thread_of}
 use Rattle.protocol.specs.Transition.{Meets, Trans, refuses, sets_up, ticks, lands, begins, steps, here}
 
@@ -41,13 +41,13 @@ pub onward_ticked : (m : Meaning) → Onward m (ticked m)
 onward_ticked m = let p = ticked_moves m in let f = p.clock in record { bound = p.fixed.bound; clock = omega arith }
 
 pub meets_onward : (t : ℕ) (q : Request) (m m' : Meaning) (k : Told) → Meets t q m m' k → Onward m m'
-meets_onward t (asksLoad c) m m' k x = onward_lands x.2.lands
-meets_onward t (asksStore c v) m m' k x = onward_trans (onward_stored t c v m) (onward_lands x.1)
-meets_onward t (asksExchange c old new) m m' k x =
+meets_onward t (asks_load c) m m' k x = onward_lands x.2.lands
+meets_onward t (asks_store c v) m m' k x = onward_trans (onward_stored t c v m) (onward_lands x.1)
+meets_onward t (asks_exchange c old new) m m' k x =
     onward_trans (onward_lands x.2.lands) (rw x.2.is (onward_exchanged c old new x.2.between))
-meets_onward t asksClock m m' k x = onward_same x.1
-meets_onward t asksFence m m' k x = onward_same x.1
-meets_onward t asksNothing m m' k x = onward_same x.1
+meets_onward t asks_clock m m' k x = onward_same x.1
+meets_onward t asks_fence m m' k x = onward_same x.1
+meets_onward t asks_nothing m m' k x = onward_same x.1
 
 pub onward : (s s' : State) {c : Call} {a : Answer} {k : Told} → Trans s s' c a k → Onward s.memory s'.memory
 onward s s' (refuses f e) = rw e (onward_same refl)

@@ -6,16 +6,16 @@ use Rattle.memory.specs.Meaning.{Meaning}
 use Rattle.protocol.specs.declared.answer.Answer.{Answer}
 use Rattle.protocol.specs.declared.call.Call.{Call}
 use Rattle.protocol.specs.Calls.{Moves, Leads, Performs, Runs, begun_new}
-use Rattle.protocol.specs.Guarantees.{Explains, Guarantees}
+use Rattle.protocol.specs.Guarantees.{Explains}
 use Rattle.protocol.specs.History.{Event, event}
 use Rattle.protocol.specs.Steps.{Told}
 use Rattle.protocol.specs.Tables.{State}
 use Rattle.protocol.specs.Transition.{Trans}
-use Rattle.protocol.proofs.WholeGuarantee.{the_guarantees}
+use Rattle.protocol.proofs.WholeGuarantee.{all_the_guarantees}
 
 pub leads : (s s' : State) (c : Call) (a : Answer) (k : Told) → Trans s s' c a k → Leads s s' c a k
 unfolding Leads
-leads s s' c a k t = λ h r. let r' : Explains (event c a k ∷ h) s' = (s, r, t) in (r', the_guarantees (event c a k ∷ h) s' r')
+leads s s' c a k t = λ h r. let r' : Explains (event c a k ∷ h) s' = (s, r, t) in (r', all_the_guarantees (event c a k ∷ h) s' r')
 
 pub performed : {s s' : State} {c : Call} {a : Answer} → Moves s s' c a → Performs s s' c a
 performed {s} {s'} {c} {a} m = record { told = m.told; moves = m.trans; leads = leads s s' c a m.told m.trans }
@@ -24,7 +24,7 @@ performed {s} {s'} {c} {a} m = record { told = m.told; moves = m.trans; leads = 
 pub runs_none : (m : Meaning) (told : List Answer) (s : State) → Sound m → told ≡ [] → s ≡ begun_new m → Runs m [] told s
 runs_none m told s sound none e =
     let w : Explains [] s = rw e (refl, sound) in
-    record { history = []; calls = refl; answers = rw none refl; follows = e; explains = w; guarantees = the_guarantees [] s w }
+    record { history = []; calls = refl; answers = rw none refl; follows = e; explains = w; guarantees = all_the_guarantees [] s w }
 
 -- one more call
 pub runs_more : (m : Meaning) (asked : List Call) (i : ℕ) (c : Call) (a : Answer) (told told' : List Answer) (s s' : State) → i < length asked → c ≡ get_or asked i c → told' ≡ told ++ a ∷ []

@@ -6,7 +6,7 @@ use Rattle.protocol.specs.declared.answer.Answer.{Answer}
 use Rattle.protocol.specs.declared.call.Call.{Call}
 use Rattle.protocol.specs.declared.settings.Settings.{Settings}
 use Rattle.protocol.specs.Settings.{hazard_cell, hazard_cells}
-use Rattle.protocol.specs.Steps.{Request, asksLoad, asksStore, asksExchange, asksClock, asksFence, asksNothing, Told, guard_of, word, request}
+use Rattle.protocol.specs.Steps.{Request, asks_load, asks_store, asks_exchange, asks_clock, asks_fence, asks_nothing, Told, guard_of, word, request}
 use Rattle.protocol.specs.Tables.{Point, Tables, State, thread_of, idle, protect1, protect2, protect3, protect4, copy1, release1, publish1, remove1, remove2, remove3, reclaim1, reclaim2, reclaim3, owner_lock1, owner_lock2, owner_lock3, owner_lock4, owner_lock5, owner_unlock1, owner_unlock2, owner_unlock3, owner_unlock4, other_lock1, other_lock2, other_lock3, other_lock4, other_lock5, other_lock6, other_lock7, other_lock8, other_unlock1, other_unlock2, other_unlock3}
 use Rattle.protocol.specs.Transition.{Meets, Trans, refuses, sets_up, ticks, lands, begins, steps, step_asks, here}
 use Rattle.protocol.proofs.FirstState.{new_empty}
@@ -17,12 +17,12 @@ use Rattle.protocol.proofs.PlacedMemory.{ranges}
 
 -- what a step stores
 abbrev pub OwnStore : Settings → ℕ → Meaning → Request → Type 0
-OwnStore z t m (asksLoad c) = Unit {0}
-OwnStore z t m (asksStore c v) = OwnWrite z t (written m c v)
-OwnStore z t m (asksExchange c old new) = Unit {0}
-OwnStore z t m asksClock = Unit {0}
-OwnStore z t m asksFence = Unit {0}
-OwnStore z t m asksNothing = Unit {0}
+OwnStore z t m (asks_load c) = Unit {0}
+OwnStore z t m (asks_store c v) = OwnWrite z t (written m c v)
+OwnStore z t m (asks_exchange c old new) = Unit {0}
+OwnStore z t m asks_clock = Unit {0}
+OwnStore z t m asks_fence = Unit {0}
+OwnStore z t m asks_nothing = Unit {0}
 
 module _ (x : Tables) (m : Meaning) (t : ℕ) where
   hazards : (h v : ℕ) → h < x.settings.hazards → OwnWrite x.settings t (written m (hazard_cell x.settings t h) v)
@@ -69,12 +69,12 @@ module _ (x : Tables) (m : Meaning) (t : ℕ) where
   request_owns other_unlock3 f = locks _ 0 (omega arith)
 
 pub meets_owns : (z : Settings) (t : ℕ) (q : Request) (m m' : Meaning) (k : Told) → t < length m.waiting → t < z.threads → OwnStore z t m q → Meets t q m m' k → Owns z m → Owns z m'
-meets_owns z t (asksLoad c) m m' k lt in' f w o = owns_lands z w.2.lands o
-meets_owns z t (asksStore c v) m m' k lt in' f w o = owns_lands z w.1 (owns_stored z t c v m lt in' f o)
-meets_owns z t (asksExchange c old new) m m' k lt in' f w o = rw w.2.is (owns_exchanged z c old new w.2.between (owns_lands z w.2.lands o))
-meets_owns z t asksClock m m' k lt in' f w o = rw w.1 o
-meets_owns z t asksFence m m' k lt in' f w o = rw w.1 o
-meets_owns z t asksNothing m m' k lt in' f w o = rw w.1 o
+meets_owns z t (asks_load c) m m' k lt in' f w o = owns_lands z w.2.lands o
+meets_owns z t (asks_store c v) m m' k lt in' f w o = owns_lands z w.1 (owns_stored z t c v m lt in' f o)
+meets_owns z t (asks_exchange c old new) m m' k lt in' f w o = rw w.2.is (owns_exchanged z c old new w.2.between (owns_lands z w.2.lands o))
+meets_owns z t asks_clock m m' k lt in' f w o = rw w.1 o
+meets_owns z t asks_fence m m' k lt in' f w o = rw w.1 o
+meets_owns z t asks_nothing m m' k lt in' f w o = rw w.1 o
 
 -- a thread of the machine is one of the memory
 pub thread_waits : (x : Tables) (m : Meaning) (t : ℕ) → Placed x m → t < x.settings.threads → t < length m.waiting

@@ -15,18 +15,18 @@ use Rattle.protocol.specs.Guarantees.{Explains}
 use Rattle.protocol.specs.History.{Event, event}
 use Rattle.protocol.specs.MarkedRuns.{MarkedRuns}
 use Rattle.protocol.specs.Runs.{held_told, held_after, does, decided, performs, begun_new, state_after, history_after}
-use Rattle.protocol.specs.Steps.{Request, asksLoad, asksStore, asksExchange, asksClock, asksFence, asksNothing, request}
+use Rattle.protocol.specs.Steps.{Request, asks_load, asks_store, asks_exchange, asks_clock, asks_fence, asks_nothing, request}
 use Rattle.protocol.specs.Tables.{Tables, State, thread_of}
 use Rattle.protocol.specs.Transition.{Trans, refuses, sets_up, ticks, lands, begins, steps, Meets, checks_of, first, tick_asks, begin_asks, here}
 use Rattle.protocol.proofs.Passed.{all_pass, none_since, rest_passed}
 
 meets : (t : ℕ) (q : Request) (m : Meaning) → Meets t q m (held_after t m q) (held_told t m q)
-meets t (asksLoad c) m = (loaded m t c, refl, record { lands = lands_none m; value = refl })
-meets t (asksStore c v) m = (refl, lands_none (stored t c v m))
-meets t (asksExchange c old new) m = (eqb (cell m c) old, refl, record { between = m; lands = lands_none m; answer = refl; is = refl })
-meets t asksClock m = (refl, refl)
-meets t asksFence m = (refl, refl)
-meets t asksNothing m = (refl, refl)
+meets t (asks_load c) m = (loaded m t c, refl, record { lands = lands_none m; value = refl })
+meets t (asks_store c v) m = (refl, lands_none (stored t c v m))
+meets t (asks_exchange c old new) m = (eqb (cell m c) old, refl, record { between = m; lands = lands_none m; answer = refl; is = refl })
+meets t asks_clock m = (refl, refl)
+meets t asks_fence m = (refl, refl)
+meets t asks_nothing m = (refl, refl)
 
 -- the memory still lands nothing by itself
 exchanged_self : (c old new : ℕ) (m : Meaning) → (exchanged c old new m).self_landing ≡ m.self_landing
@@ -39,12 +39,12 @@ exchanged_self c old new m = go (eqb (cell m c) old)
 
 after_self : (t : ℕ) (q : Request) (m : Meaning) → (held_after t m q).self_landing ≡ m.self_landing
 unfolding stored
-after_self t (asksLoad c) m = refl
-after_self t (asksStore c v) m = refl
-after_self t (asksExchange c old new) m = exchanged_self c old new m
-after_self t asksClock m = refl
-after_self t asksFence m = refl
-after_self t asksNothing m = refl
+after_self t (asks_load c) m = refl
+after_self t (asks_store c v) m = refl
+after_self t (asks_exchange c old new) m = exchanged_self c old new m
+after_self t asks_clock m = refl
+after_self t asks_fence m = refl
+after_self t asks_nothing m = refl
 
 does_self : (c : Call) (o : Option Tables) (s : State) → (does c o s).state.memory.self_landing ≡ s.memory.self_landing
 unfolding ticked

@@ -14,7 +14,7 @@ use Rattle.protocol.specs.declared.answer.Refusal.TheVariants.{BufferFull, Write
 use Rattle.protocol.specs.declared.node.NodeState.{NodeState}
 use Rattle.protocol.specs.declared.settings.Settings.{Settings}
 use Rattle.protocol.specs.Settings.{hazard_cells, lock_cell, flag0_cell, flag1_cell}
-use Rattle.protocol.specs.Steps.{Request, asksLoad, asksStore, asksExchange, asksClock, asksFence, asksNothing, Told, clock_told, value_told, done_told, Outcome, lowered, version_of, waited, word, request, after, stays, ends, entering, after_owner_lock2, after_owner_lock4, after_owner_lock5, after_owner_unlock1, after_other_lock1, after_other_lock2, after_other_lock5, after_other_lock6, after_other_lock7, after_other_lock8, after_other_unlock1}
+use Rattle.protocol.specs.Steps.{Request, asks_load, asks_store, asks_exchange, asks_clock, asks_fence, asks_nothing, Told, clock_told, value_told, done_told, Outcome, lowered, version_of, waited, word, request, after, stays, ends, entering, after_owner_lock2, after_owner_lock4, after_owner_lock5, after_owner_unlock1, after_other_lock1, after_other_lock2, after_other_lock5, after_other_lock6, after_other_lock7, after_other_lock8, after_other_unlock1}
 use Rattle.protocol.specs.Tables.{Point, Thread, Tables, thread_of, idle_thread, idle, protect1, protect2, protect3, protect4, copy1, release1, publish1, remove1, remove2, remove3, reclaim1, reclaim2, reclaim3, owner_lock1, owner_lock2, owner_lock3, owner_lock4, owner_lock5, owner_unlock1, owner_unlock2, owner_unlock3, owner_unlock4, other_lock1, other_lock2, other_lock3, other_lock4, other_lock5, other_lock6, other_lock7, other_lock8, other_unlock1, other_unlock2, other_unlock3}
 use Rattle.protocol.specs.Transition.{Meets, request_checks, here, counted, stepped}
 use Rattle.protocol.proofs.LockMemory.{same_refl, still_refl, lands_then, pushed_aside, pushed_one, exchanged_aside, none_waits, put_lock, loads_flag0, loads_flag1}
@@ -54,12 +54,12 @@ NodeOutcome r o = NodePoint o.own.point × (o.own.inside ≡ r.inside)
 
 -- a request that writes no cell of the lock
 abbrev pub Aside : Settings → Request → Type 0
-Aside z (asksLoad c) = Unit {0}
-Aside z (asksStore c v) = c < lock_cell z
-Aside z (asksExchange c old new) = c < lock_cell z
-Aside z asksClock = Unit {0}
-Aside z asksFence = Unit {0}
-Aside z asksNothing = Unit {0}
+Aside z (asks_load c) = Unit {0}
+Aside z (asks_store c v) = c < lock_cell z
+Aside z (asks_exchange c old new) = c < lock_cell z
+Aside z asks_clock = Unit {0}
+Aside z asks_fence = Unit {0}
+Aside z asks_nothing = Unit {0}
 
 module _ (x : Tables) (m m' : Meaning) (t : ℕ) (lt : t < x.settings.threads) (p : Placed x m) where
   small : Ranges x.settings
@@ -108,17 +108,17 @@ module _ (x : Tables) (m m' : Meaning) (t : ℕ) (lt : t < x.settings.threads) (
 
   node_path : {q : Point} (r : Request) (k : Told) → (thread_of x t).point ≡ q → NodePoint q → Aside x.settings r → first_no (request_checks t m r) ≡ None → Meets t r m m' k
       → (o : Outcome) → NodeOutcome (thread_of x t) o → StepPath x t m m' o
-  node_path (asksLoad c) k e n a r w o f = on_load o w.2 (node_acts e n o f m' m' (same_refl (sight_of x.settings m')))
-  node_path (asksStore c v) k e n a r w o f =
+  node_path (asks_load c) k e n a r w o f = on_load o w.2 (node_acts e n o f m' m' (same_refl (sight_of x.settings m')))
+  node_path (asks_store c v) k e n a r w o f =
       on_store o c v (let b = lock_inside in omega arith) r w.1
       (λ b. node_acts e n o f m (stored t c v m) (pushed_aside x.settings t c v m (stored t c v m) b a))
-  node_path (asksExchange c old new) k e n a r w o f =
+  node_path (asks_exchange c old new) k e n a r w o f =
       let l = w.2.between in
       on_exchange o w.2
       (node_acts e n o f l m' (rw w.2.is (exchanged_aside x.settings c old new l a)))
-  node_path asksClock k e n a r w o f = on_same o w.1 (node_acts e n o f m' m' (same_refl (sight_of x.settings m')))
-  node_path asksFence k e n a r w o f = on_same o w.1 (node_acts e n o f m' m' (same_refl (sight_of x.settings m')))
-  node_path asksNothing k e n a r w o f = on_same o w.1 (node_acts e n o f m' m' (same_refl (sight_of x.settings m')))
+  node_path asks_clock k e n a r w o f = on_same o w.1 (node_acts e n o f m' m' (same_refl (sight_of x.settings m')))
+  node_path asks_fence k e n a r w o f = on_same o w.1 (node_acts e n o f m' m' (same_refl (sight_of x.settings m')))
+  node_path asks_nothing k e n a r w o f = on_same o w.1 (node_acts e n o f m' m' (same_refl (sight_of x.settings m')))
 
   node_step : (k : Told) (q : Point) → (thread_of x t).point ≡ q → NodePoint q → Aside x.settings (request (here x m t) q) → first_no (request_checks t m (request (here x m t) q)) ≡ None
       → Meets t (request (here x m t) q) m m' k → NodeOutcome (thread_of x t) (after (here x m t) q k) → StepPath x t m m' (after (here x m t) q k)
@@ -176,12 +176,12 @@ module _ (x : Tables) (m m' : Meaning) (t : ℕ) (lt : t < x.settings.threads) (
 
   -- Steps of the lock that load a flag.
 
-  loads0 : (o : ℕ → Outcome) (k : Told) → Meets t (asksLoad (flag0_cell x.settings)) m m' k → StepActs x t m' m' (o (sees0 x.settings (sight_of x.settings m') t)) → StepPath x t m m' (o (value_told k))
+  loads0 : (o : ℕ → Outcome) (k : Told) → Meets t (asks_load (flag0_cell x.settings)) m m' k → StepActs x t m' m' (o (sees0 x.settings (sight_of x.settings m') t)) → StepPath x t m m' (o (value_told k))
   loads0 o k w a =
       let e : sees0 x.settings (sight_of x.settings m') t ≡ value_told k = rw w.1 (sym (w.2.value ∙ loads_flag0 x.settings t m')) in
       subst (λ (v : ℕ). StepPath x t m m' (o v)) e (on_load (o (sees0 x.settings (sight_of x.settings m') t)) w.2 a)
 
-  loads1 : (o : ℕ → Outcome) (k : Told) → Meets t (asksLoad (flag1_cell x.settings)) m m' k → StepActs x t m' m' (o (sees1 x.settings (sight_of x.settings m') t)) → StepPath x t m m' (o (value_told k))
+  loads1 : (o : ℕ → Outcome) (k : Told) → Meets t (asks_load (flag1_cell x.settings)) m m' k → StepActs x t m' m' (o (sees1 x.settings (sight_of x.settings m') t)) → StepPath x t m m' (o (value_told k))
   loads1 o k w a =
       let e : sees1 x.settings (sight_of x.settings m') t ≡ value_told k = rw w.1 (sym (w.2.value ∙ loads_flag1 x.settings t m')) in
       subst (λ (v : ℕ). StepPath x t m m' (o v)) e (on_load (o (sees1 x.settings (sight_of x.settings m') t)) w.2 a)
@@ -227,7 +227,7 @@ module _ (x : Tables) (m m' : Meaning) (t : ℕ) (lt : t < x.settings.threads) (
 
   -- Steps of the lock that read the clock.
 
-  clocks : (o : ℕ → Outcome) (k : Told) → Meets t asksClock m m' k → StepActs x t m' m' (o m'.clock) → StepPath x t m m' (o (clock_told k))
+  clocks : (o : ℕ → Outcome) (k : Told) → Meets t asks_clock m m' k → StepActs x t m' m' (o m'.clock) → StepPath x t m m' (o (clock_told k))
   clocks o k w a =
       let e : m'.clock ≡ clock_told k = rw (w.0, w.1) refl in
       subst (λ (v : ℕ). StepPath x t m m' (o v)) e (on_same (o m'.clock) w.1 a)

@@ -14,10 +14,11 @@ use Rattle.protocol.specs.declared.call.Call.{Call}
 use Rattle.protocol.specs.declared.node.NodeState.TheVariants.{Free, Retired as RetiredBy}
 use Rattle.protocol.specs.declared.retired.Retired.{Retired}
 use Rattle.protocol.specs.Codes.{number_of, code_of, value_of}
-use Rattle.protocol.specs.Guarantees.{Explains, NumbersFit, EveryNumberFits, FlagsAreWhole}
+use Rattle.protocol.specs.AllGuarantees.{NumbersFit, EveryNumberFits, FlagsAreWhole}
+use Rattle.protocol.specs.Guarantees.{Explains}
 use Rattle.protocol.specs.History.{Event, event, accepted_in}
 use Rattle.protocol.specs.Settings.{hazard_cells}
-use Rattle.protocol.specs.Steps.{asksLoad, Told, clock_told, value_told, done_told, Outcome, guard_of, keeps, freed, lowered, version_of, waited, word, request, after}
+use Rattle.protocol.specs.Steps.{asks_load, Told, clock_told, value_told, done_told, Outcome, guard_of, keeps, freed, lowered, version_of, waited, word, request, after}
 use Rattle.protocol.specs.Tables.{Tables, State, thread_of, node_of, Point, idle, protect1, protect2, protect3, protect4, copy1, release1, publish1, remove1, remove2, remove3, reclaim1, reclaim2, reclaim3, owner_lock1, owner_lock2, owner_lock3, owner_lock4, owner_lock5, owner_unlock1, owner_unlock2, owner_unlock3, owner_unlock4, other_lock1, other_lock2, other_lock3, other_lock4, other_lock5, other_lock6, other_lock7, other_lock8, other_unlock1, other_unlock2, other_unlock3}
 use Rattle.protocol.specs.Transition.{Meets, Trans, refuses, sets_up, ticks, lands, begins, steps, here, step_asks}
 use Rattle.protocol.proofs.Guards.{GuardInv, explains_guarded}
@@ -93,7 +94,7 @@ module _ (x : Tables) (m : Meaning) (p : Placed x m) (g : GuardInv x m) where
     Fine o = value_of o.answer ≤ 255
 
     -- what was found in a root is a node
-    found_small : (r n : ℕ) → r < x.settings.roots → 0 < n → Meets t (asksLoad r) m m' k → value_told k ≡ n → n ≤ 64
+    found_small : (r n : ℕ) → r < x.settings.roots → 0 < n → Meets t (asks_load r) m m' k → value_told k ≡ n → n ≤ 64
     found_small r n lr pos w e =
         let is = published_at x m m' t lt p g.owns r n w.2.lands lr pos (sym w.2.value ∙ (sym (ap value_told w.1) ∙ e)) in
         node_small n (λ f. let y : ◌≡◌ {A = ℕ} 0 1 = cc in absurd (omega arith))
@@ -185,7 +186,7 @@ explains_few h s led = go s.tables refl
   where
     go : (o : Option Tables) → s.tables ≡ o → accepted_in h ≤ 8000
     go None e = rw ((explains_reached h s led).before e).accepted (omega arith)
-    go (Some x) e = rw (sym ((explains_reached h s led).shown x e).shows.accepted) (tables_few h s led x e)
+    go (Some x) e = rw (sym ((explains_reached h s led).shown x e).accepted) (tables_few h s led x e)
 
 -- The theorem.
 

@@ -5,6 +5,7 @@ use Rattle.memory.specs.Meaning.{Meaning, cell}
 use Rattle.protocol.specs.declared.answer.Answer.TheVariants.{Ended}
 use Rattle.protocol.specs.declared.node.NodeState.TheVariants.{Free, Taken, Published, Removed}
 use Rattle.protocol.specs.declared.operation.Operation.TheVariants.{Publish, Remove}
+use Rattle.protocol.specs.AllGuarantees.{HasItsThread, EveryNodeHasItsThread}
 use Rattle.protocol.specs.Guarantees.{Explains, InOnePlace, retired_in, EveryNodeInOnePlace}
 use Rattle.protocol.specs.Begin.{is_free}
 use Rattle.protocol.specs.History.{Event, doing_in, is_remove, removing_in, list_in, names, state_step, state_in, free_in, root_in}
@@ -95,14 +96,15 @@ module _ (b : ℕ) (h : List Event) (x : Tables) (m : Meaning) (p : Placed x m) 
       record {
         free = f;
         taken = place_taken;
-        taking = place_taking;
         published = place_published;
         rooted = place_rooted;
         removed = place_removed;
-        removing = place_removing;
         listed = place_listed;
         counts = k;
       }
+
+  pub has_its_thread : HasItsThread b h n
+  has_its_thread = record { taking = place_taking; removing = place_removing }
 
 -- Before set-up everything is as at first.
 unset_one_place : (b : ℕ) (h : List Event) → Untouched h → ((r : ℕ) → root_in h r ≡ 0) → (n : ℕ) → 0 < n → free_in b h n ≡ is_free (state_in b h n) → CountsAgree b h n → InOnePlace b h n
@@ -110,16 +112,21 @@ unset_one_place b h k roots n real f c =
     record {
       free = f;
       taken = λ t r e. let d = k.doing t in let z : ◌≡◌ {A = ℕ} 0 1 = cc in absurd (omega arith);
-      taking = λ t e. let d = k.nodes b n in let z : ◌≡◌ {A = ℕ} 0 1 = cc in absurd (omega arith);
       published = λ r e. let d = roots r in absurd (omega arith);
       rooted = λ r e. let d = k.nodes b n in let z : ◌≡◌ {A = ℕ} 0 1 = cc in absurd (omega arith);
       removed = λ t e f. absurd (both_ways false refl (rw (k.doing t) at e));
-      removing = λ t e. let d = k.nodes b n in let z : ◌≡◌ {A = ℕ} 0 1 = cc in absurd (omega arith);
       listed = λ t. rw (k.lists b t, k.nodes b n) refl;
       counts = c;
     }
 
--- The theorem.
+unset_has_no_thread : (b : ℕ) (h : List Event) → Untouched h → (n : ℕ) → HasItsThread b h n
+unset_has_no_thread b h k n =
+    record {
+      taking = λ t e. let d = k.nodes b n in let z : ◌≡◌ {A = ℕ} 0 1 = cc in absurd (omega arith);
+      removing = λ t e. let d = k.nodes b n in let z : ◌≡◌ {A = ℕ} 0 1 = cc in absurd (omega arith);
+    }
+
+-- The theorems.
 
 explains_roots : (h : List Event) (s : State) → Explains h s → RootsShown h s
 explains_roots [] s w = λ r. rw w.0 refl
@@ -142,3 +149,12 @@ every_node_in_one_place h s w n real = go s.tables refl
     go (Some x) e =
         let now = explains_reached h s w in
         in_one_place s.memory.bound h x s.memory (now.inv.placed x e) (explains_at_work h s w x e) (now.shown x e) (λ r. rw e at (explains_roots h s w r)) n real (free_in_place h s w n) (explains_counts h s w n real)
+
+pub every_node_has_its_thread : EveryNodeHasItsThread
+every_node_has_its_thread h s w n real = go s.tables refl
+  where
+    go : (o : Option Tables) → s.tables ≡ o → HasItsThread s.memory.bound h n
+    go None e = unset_has_no_thread s.memory.bound h ((explains_reached h s w).before e) n
+    go (Some x) e =
+        let now = explains_reached h s w in
+        has_its_thread s.memory.bound h x s.memory (now.inv.placed x e) (explains_at_work h s w x e) (now.shown x e) (λ r. rw e at (explains_roots h s w r)) n real

@@ -10,7 +10,7 @@ use Rattle.protocol.specs.declared.answer.Answer.{Answer}
 use Rattle.protocol.specs.declared.call.Call.{Call}
 use Rattle.protocol.specs.declared.node.NodeState.TheVariants.{Published}
 use Rattle.protocol.specs.History.{Event, ended_well, going_on, doing_in, root_step, root_after, root_in}
-use Rattle.protocol.specs.Steps.{Request, asksLoad, asksStore, asksExchange, asksClock, asksFence, asksNothing, Told, done_told, Here, request, after, after_publish1, after_remove2}
+use Rattle.protocol.specs.Steps.{Request, asks_load, asks_store, asks_exchange, asks_clock, asks_fence, asks_nothing, Told, done_told, Here, request, after, after_publish1, after_remove2}
 use Rattle.protocol.specs.Tables.{doing_at, Tables, State, thread_of, node_of, Point, idle, protect1, protect2, protect3, protect4, copy1, release1, publish1, remove1, remove2, remove3, reclaim1, reclaim2, reclaim3, owner_lock1, owner_lock2, owner_lock3, owner_lock4, owner_lock5, owner_unlock1, owner_unlock2, owner_unlock3, owner_unlock4, other_lock1, other_lock2, other_lock3, other_lock4, other_lock5, other_lock6, other_lock7, other_lock8, other_unlock1, other_unlock2, other_unlock3}
 use Rattle.protocol.specs.Transition.{Meets, Trans, refuses, sets_up, ticks, lands, begins, steps, here, step_asks}
 use Rattle.protocol.proofs.FirstState.{new_blank}
@@ -31,22 +31,22 @@ RootsShown h s = (r : ℕ) → root_in h r ≡ root_or s.tables s.memory r
 
 -- a request that writes no cell below n
 abbrev pub Quiet : ℕ → Request → Type 0
-Quiet n (asksLoad c) = Unit {0}
-Quiet n (asksStore c v) = n ≤ c
-Quiet n (asksExchange c old new) = n ≤ c
-Quiet n asksClock = Unit {0}
-Quiet n asksFence = Unit {0}
-Quiet n asksNothing = Unit {0}
+Quiet n (asks_load c) = Unit {0}
+Quiet n (asks_store c v) = n ≤ c
+Quiet n (asks_exchange c old new) = n ≤ c
+Quiet n asks_clock = Unit {0}
+Quiet n asks_fence = Unit {0}
+Quiet n asks_nothing = Unit {0}
 
 pub meets_quiet : (n t : ℕ) (q : Request) (m m' : Meaning) (k : Told) → t < length m.waiting → Quiet n q → Meets t q m m' k → Below n m m → Below n m m'
-meets_quiet n t (asksLoad c) m m' k lt q w b = below_lands n m w.2.lands b
-meets_quiet n t (asksStore c v) m m' k lt q w b = below_lands n m w.1 (below_stored n m t c v m lt q b)
-meets_quiet n t (asksExchange c old new) m m' k lt q w b =
+meets_quiet n t (asks_load c) m m' k lt q w b = below_lands n m w.2.lands b
+meets_quiet n t (asks_store c v) m m' k lt q w b = below_lands n m w.1 (below_stored n m t c v m lt q b)
+meets_quiet n t (asks_exchange c old new) m m' k lt q w b =
     let x = w.2 in
     rw x.is (below_exchanged n m c old new x.between q (below_lands n m x.lands b))
-meets_quiet n t asksClock m m' k lt q w b = rw w.1 b
-meets_quiet n t asksFence m m' k lt q w b = rw w.1 b
-meets_quiet n t asksNothing m m' k lt q w b = rw w.1 b
+meets_quiet n t asks_clock m m' k lt q w b = rw w.1 b
+meets_quiet n t asks_fence m m' k lt q w b = rw w.1 b
+meets_quiet n t asks_nothing m m' k lt q w b = rw w.1 b
 
 -- an exchange on a cell below n: where it was done that cell has the new value, and the others stand
 pub exchange_below : (n c old new : ℕ) (m m' : Meaning) (d : Bool) → Sound m → c < n → n ≤ 8 → Below n m m → Exchanged Lands c old new m m' d → (r : ℕ) → r < n → cell m' r ≡ cond (d && eqb c r) new (cell m r)
@@ -149,7 +149,7 @@ remove_was x m m' t r n k p f (b, told, done) e =
 
 module _ (b : ℕ) (h : List Event) (x : Tables) (m : Meaning) (p : Placed x m) (shown : Shown b h x) (t : ℕ) (inside : t < x.settings.threads) (m' : Meaning) (a : Answer) (k : Told) where
   -- an exchange on a root, under an answer that tells whether it was done
-  exchange_told : (root old new : ℕ) (y : Bool) → root < x.settings.roots → Meets t (asksExchange root old new) m m' k → y ≡ done_told k
+  exchange_told : (root old new : ℕ) (y : Bool) → root < x.settings.roots → Meets t (asks_exchange root old new) m m' k → y ≡ done_told k
       → (r : ℕ) → cond (y && eqb root r) new (root_or (Some x) m r) ≡ root_or (Some x) m' r
   exchange_told root old new y lt w e r =
       let done : y ≡ w.0 = e ∙ ap done_told w.1 in

@@ -44,6 +44,7 @@ KnownAt h t other_unlock3 = Unit {0}
 
 pub record Shown (b : ℕ) (h : List Event) (x : Tables) : Type 0 where
   pub shows : Shows b h x
+  pub accepted : x.accepted ≡ accepted_in h
   pub known : (t : ℕ) → KnownAt h t (thread_of x t).point
 
 -- what a history tells before set-up

@@ -14,7 +14,7 @@ use Rattle.protocol.specs.Begin.{start_of}
 use Rattle.protocol.specs.Guarantees.{Explains}
 use Rattle.protocol.specs.History.{Event}
 use Rattle.protocol.specs.Settings.{hazard_cells}
-use Rattle.protocol.specs.Steps.{Request, asksLoad, asksStore, asksExchange, asksClock, asksFence, asksNothing, Told, clock_told, value_told, done_told, Outcome, moved_to, guarding, guard_of, lowered, version_of, waited, word, request, after}
+use Rattle.protocol.specs.Steps.{Request, asks_load, asks_store, asks_exchange, asks_clock, asks_fence, asks_nothing, Told, clock_told, value_told, done_told, Outcome, moved_to, guarding, guard_of, lowered, version_of, waited, word, request, after}
 use Rattle.protocol.specs.Tables.{Thread, Tables, State, thread_of, idle_thread, Point, idle, protect1, protect2, protect3, protect4, copy1, release1, publish1, remove1, remove2, remove3, reclaim1, reclaim2, reclaim3, owner_lock1, owner_lock2, owner_lock3, owner_lock4, owner_lock5, owner_unlock1, owner_unlock2, owner_unlock3, owner_unlock4, other_lock1, other_lock2, other_lock3, other_lock4, other_lock5, other_lock6, other_lock7, other_lock8, other_unlock1, other_unlock2, other_unlock3}
 use Rattle.protocol.specs.Transition.{Meets, here}
 use Rattle.protocol.proofs.FirstState.{replicated, same_all, new_empty, new_blank}
@@ -109,28 +109,28 @@ loaded_small b t c m s = newest_small b None (queue m t) c (cell m c) (s.cells c
 
 -- what a step asks to be written
 abbrev Writes : ℕ → Request → Type 0
-Writes b (asksLoad c) = Unit {0}
-Writes b (asksStore c v) = v ≤ b
-Writes b (asksExchange c old new) = new ≤ b
-Writes b asksClock = Unit {0}
-Writes b asksFence = Unit {0}
-Writes b asksNothing = Unit {0}
+Writes b (asks_load c) = Unit {0}
+Writes b (asks_store c v) = v ≤ b
+Writes b (asks_exchange c old new) = new ≤ b
+Writes b asks_clock = Unit {0}
+Writes b asks_fence = Unit {0}
+Writes b asks_nothing = Unit {0}
 
 meets_small : (b t : ℕ) (q : Request) (m m' : Meaning) (k : Told) → t < length m.waiting → Writes b q → Meets t q m m' k → SmallMemory b m → SmallMemory b m'
-meets_small b t (asksLoad c) m m' k lt q w s = memory_lands b w.2.lands s
-meets_small b t (asksStore c v) m m' k lt q w s = memory_lands b w.1 (memory_stored b t c v m lt q s)
-meets_small b t (asksExchange c old new) m m' k lt q w s = rw w.2.is (memory_exchanged b c old new w.2.between q (memory_lands b w.2.lands s))
-meets_small b t asksClock m m' k lt q w s = rw w.1 s
-meets_small b t asksFence m m' k lt q w s = rw w.1 s
-meets_small b t asksNothing m m' k lt q w s = rw w.1 s
+meets_small b t (asks_load c) m m' k lt q w s = memory_lands b w.2.lands s
+meets_small b t (asks_store c v) m m' k lt q w s = memory_lands b w.1 (memory_stored b t c v m lt q s)
+meets_small b t (asks_exchange c old new) m m' k lt q w s = rw w.2.is (memory_exchanged b c old new w.2.between q (memory_lands b w.2.lands s))
+meets_small b t asks_clock m m' k lt q w s = rw w.1 s
+meets_small b t asks_fence m m' k lt q w s = rw w.1 s
+meets_small b t asks_nothing m m' k lt q w s = rw w.1 s
 
 pub told_small : (b t : ℕ) (q : Request) (m m' : Meaning) (k : Told) → Meets t q m m' k → SmallMemory b m → value_told k ≤ b
-told_small b t (asksLoad c) m m' k w s = rw (w.1, w.2.value) (loaded_small b t c m' (memory_lands b w.2.lands s))
-told_small b t (asksStore c v) m m' k w s = rw w.0 (omega arith)
-told_small b t (asksExchange c old new) m m' k w s = rw w.1 (omega arith)
-told_small b t asksClock m m' k w s = rw w.0 (omega arith)
-told_small b t asksFence m m' k w s = rw w.0 (omega arith)
-told_small b t asksNothing m m' k w s = rw w.0 (omega arith)
+told_small b t (asks_load c) m m' k w s = rw (w.1, w.2.value) (loaded_small b t c m' (memory_lands b w.2.lands s))
+told_small b t (asks_store c v) m m' k w s = rw w.0 (omega arith)
+told_small b t (asks_exchange c old new) m m' k w s = rw w.1 (omega arith)
+told_small b t asks_clock m m' k w s = rw w.0 (omega arith)
+told_small b t asks_fence m m' k w s = rw w.0 (omega arith)
+told_small b t asks_nothing m m' k w s = rw w.0 (omega arith)
 
 -- The threads.
 

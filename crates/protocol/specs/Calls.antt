@@ -3,7 +3,8 @@ use Rattle.std.specs.Prelude.{◌≡◌, List, [], ◌∷◌, map, reverse, None
 use Rattle.memory.specs.Meaning.{Meaning}
 use Rattle.protocol.specs.declared.answer.Answer.{Answer}
 use Rattle.protocol.specs.declared.call.Call.{Call}
-use Rattle.protocol.specs.Guarantees.{Explains, Guarantees}
+use Rattle.protocol.specs.AllGuarantees.{AllGuarantees}
+use Rattle.protocol.specs.Guarantees.{Explains}
 use Rattle.protocol.specs.History.{Event, event}
 use Rattle.protocol.specs.Steps.{Told}
 use Rattle.protocol.specs.Tables.{State}
@@ -18,7 +19,7 @@ pub record Moves (s s' : State) (c : Call) (a : Answer) : Type 0 where
 -- What a call promises: it answers and leaves what is defined, and every history that explains the state at entry explains, with
 -- this call at its end, the state at exit, and has the whole guarantee.
 unfoldable pub Leads : State → State → Call → Answer → Told → Type 0
-Leads s s' c a k = (h : List Event) → Explains h s → Explains (event c a k ∷ h) s' × Guarantees s'.memory.bound (event c a k ∷ h)
+Leads s s' c a k = (h : List Event) → Explains h s → Explains (event c a k ∷ h) s' × AllGuarantees s'.memory.bound (event c a k ∷ h)
 
 pub record Performs (s s' : State) (c : Call) (a : Answer) : Type 0 where
   pub told : Told
@@ -43,4 +44,4 @@ pub record Runs (m : Meaning) (cs : List Call) (rs : List Answer) (s' : State) :
   pub answers : map (λ (e : Event). e.answer) history ≡ reverse rs
   pub follows : Follows (begun_new m) history s'
   pub explains : Explains history s'
-  pub guarantees : Guarantees s'.memory.bound history
+  pub guarantees : AllGuarantees s'.memory.bound history

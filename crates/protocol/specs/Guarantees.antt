@@ -30,15 +30,9 @@ pub record Shows (b : ℕ) (h : List Event) (x : Tables) : Type 0 where
   pub inside : (t : ℕ) → (thread_of x t).inside ≡ inside_in h t
   pub nodes : (n : ℕ) → node_of x n ≡ state_in b h n
   pub settings : Some x.settings ≡ settings_in h
-  pub accepted : x.accepted ≡ accepted_in h
-
--- Tables stand exactly from the accepted set-up on, and show the history.
-abbrev pub ShownBy : ℕ → List Event → Option Tables → Type 0
-ShownBy b h None = settings_in h ≡ None
-ShownBy b h (Some x) = Shows b h x
 
 abbrev pub TablesShowTheHistory : Type 0
-TablesShowTheHistory = (h : List Event) (s : State) → Explains h s → ShownBy s.memory.bound h s.tables
+TablesShowTheHistory = (h : List Event) (s : State) (x : Tables) → Explains h s → s.tables ≡ Some x → Shows s.memory.bound h x
 
 -- Every node is in one place.
 
@@ -59,15 +53,13 @@ is_retired (RetiredBy u) = true
 pub record InOnePlace (b : ℕ) (h : List Event) (n : ℕ) : Type 0 where
   -- its place is "free" exactly while it is free
   pub free : free_in b h n ≡ is_free (state_in b h n)
-  -- a thread has taken it exactly while the node is in a publish of that thread (so no two threads publish it at once)
+  -- a thread in whose publish the node is has taken it (so no two threads publish it at once)
   pub taken : (t r : ℕ) → doing_in h t ≡ busy (Publish r n) 1 → state_in b h n ≡ Taken t
-  pub taking : (t : ℕ) → state_in b h n ≡ Taken t → (r : ℕ) × (doing_in h t ≡ busy (Publish r n) 1)
   -- the root at which it is published holds it, and no other does
   pub published : (r : ℕ) → root_in h r ≡ n → state_in b h n ≡ Published r
   pub rooted : (r : ℕ) → state_in b h n ≡ Published r → root_in h r ≡ n
-  -- a thread has removed it exactly while that thread is to retire it (so no two threads are to retire it)
+  -- a thread that is to retire it has removed it (so no two threads are to retire it)
   pub removed : (t : ℕ) → is_remove 3 (doing_in h t) ≡ true → removing_in h t ≡ n → state_in b h n ≡ Removed t
-  pub removing : (t : ℕ) → state_in b h n ≡ Removed t → (is_remove 3 (doing_in h t) ≡ true) × (removing_in h t ≡ n)
   -- the list of the thread that retired it names it once, and no other list names it
   pub listed : (t : ℕ) → names n (list_in b h t) ≡ cond (retired_in (state_in b h n) t) 1 0
   -- it was retired as often as it was freed, and once more while a list names it
@@ -111,27 +103,7 @@ NoNodeFreeWhileGuarded = (h : List Event) (s : State) → Explains h s → (t i 
 abbrev pub ListsInOrder : Type 0
 ListsInOrder = (h : List Event) (s : State) → Explains h s → (t : ℕ) → IsNonDecreasingBy (λ (e : Retired). e.date) (list_in s.memory.bound h t)
 
--- What an event tells fits: the code and the value of the answer into a byte, and the value that the memory told is at most 64 (a
--- node) plus 2 for each of at most 8000 accepted calls.
-pub record NumbersFit (e : Event) : Type 0 where
-  pub code : code_of e.answer ≤ 255
-  pub value : value_of e.answer ≤ 255
-  pub told : value_told e.told ≤ 64 + 2 * 8000
-
--- every event fits, and at most 8000 calls are accepted
-abbrev pub EveryNumberFits : Type 0
-EveryNumberFits = (h : List Event) (s : State) → Explains h s → All NumbersFit h × (accepted_in h ≤ 8000)
-
--- A step that stores a flag of the lock stores its whole value: none is cut off at the size of a word.
-pub record FlagsWhole (p : Point) : Type 0 where
-  pub echoed : (v : ℕ) → p ≡ owner_lock3 v → word (2 * v) ≡ 2 * v
-  pub raised : (v : ℕ) → p ≡ other_lock3 v → word (2 * v + 1) ≡ 2 * v + 1
-  pub lowered : (v : ℕ) → p ≡ other_unlock2 v → word (2 * (v + 1)) ≡ 2 * (v + 1)
-
-abbrev pub FlagsAreWhole : Type 0
-FlagsAreWhole = (h : List Event) (s : State) (x : Tables) → Explains h s → s.tables ≡ Some x → (t : ℕ) → FlagsWhole (thread_of x t).point
-
--- The whole guarantee of a history over a memory with bound b, for nodes, lock, lists and numbers.
+-- The whole guarantee of a history over a memory with bound b, for nodes, lock and lists.
 pub record Guarantees (b : ℕ) (h : List Event) : Type 0 where
   -- no node is free while a guard on it stands
   pub guarded : (t i : ℕ) → 0 < guard_in h t i → free_in b h (guard_in h t i) ≡ false
@@ -143,9 +115,6 @@ pub record Guarantees (b : ℕ) (h : List Event) : Type 0 where
   pub ordered : (t : ℕ) → IsNonDecreasingBy (λ (e : Retired). e.date) (list_in b h t)
   -- every late sweep left a short list
   pub short : ShortLists b h
-  -- every number fits, and at most 8000 calls are accepted
-  pub fits : All NumbersFit h
-  pub few : accepted_in h ≤ 8000
 
 abbrev pub TheGuarantees : Type 0
 TheGuarantees = (h : List Event) (s : State) → Explains h s → Guarantees s.memory.bound h

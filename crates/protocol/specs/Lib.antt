@@ -1,9 +1,11 @@
+pub mod AllGuarantees
 pub mod Begin
 pub mod Calls
 pub mod Codes
 pub mod Guarantees
 pub mod History
 pub mod MarkedRuns
+pub mod Plain
 pub mod Questions
 pub mod Runs
 pub mod Settings

@@ -12,26 +12,26 @@ use Rattle.protocol.specs.declared.operation.Operation.{Operation}
 use Rattle.protocol.specs.Begin.{named, begun}
 use Rattle.protocol.specs.Codes.{code_of, value_of}
 use Rattle.protocol.specs.History.{Event, event}
-use Rattle.protocol.specs.Steps.{Request, asksLoad, asksStore, asksExchange, asksClock, asksFence, asksNothing, Told, toldNothing, toldClock, toldValue, toldDone, Outcome, request, after}
+use Rattle.protocol.specs.Steps.{Request, asks_load, asks_store, asks_exchange, asks_clock, asks_fence, asks_nothing, Told, told_nothing, told_clock, told_value, told_done, Outcome, request, after}
 use Rattle.protocol.specs.Tables.{Tables, State, thread_of, first_tables}
 use Rattle.protocol.specs.Transition.{checks_of, here, counted, stepped}
 
 -- what the memory tells, and what it means afterwards
 abbrev pub held_told : ℕ → Meaning → Request → Told
-held_told t m (asksLoad c) = toldValue (loaded m t c)
-held_told t m (asksStore c v) = toldNothing
-held_told t m (asksExchange c old new) = toldDone (cell m c == old)
-held_told t m asksClock = toldClock m.clock
-held_told t m asksFence = toldNothing
-held_told t m asksNothing = toldNothing
+held_told t m (asks_load c) = told_value (loaded m t c)
+held_told t m (asks_store c v) = told_nothing
+held_told t m (asks_exchange c old new) = told_done (cell m c == old)
+held_told t m asks_clock = told_clock m.clock
+held_told t m asks_fence = told_nothing
+held_told t m asks_nothing = told_nothing
 
 abbrev pub held_after : ℕ → Meaning → Request → Meaning
-held_after t m (asksLoad c) = m
-held_after t m (asksStore c v) = stored t c v m
-held_after t m (asksExchange c old new) = exchanged c old new m
-held_after t m asksClock = m
-held_after t m asksFence = m
-held_after t m asksNothing = m
+held_after t m (asks_load c) = m
+held_after t m (asks_store c v) = stored t c v m
+held_after t m (asks_exchange c old new) = exchanged c old new m
+held_after t m asks_clock = m
+held_after t m asks_fence = m
+held_after t m asks_nothing = m
 
 abbrev pub with_tables : Tables → Meaning → State
 with_tables x m = record { tables = Some (counted x); memory = m }
@@ -47,7 +47,7 @@ pub record Done : Type 0 where
   pub state : State
 
 abbrev pub plainly : State → Done
-plainly s = record { answer = Answer.TheVariants.Done; told = toldNothing; state = s }
+plainly s = record { answer = Answer.TheVariants.Done; told = told_nothing; state = s }
 
 abbrev pub steps_to : ℕ → Tables → Meaning → Request → Done
 steps_to t x m q =
@@ -69,7 +69,7 @@ does (Step t) None s = plainly s
 does (Step t) (Some x) s = steps_to t x s.memory (request (here x s.memory t) (thread_of x t).point)
 
 abbrev pub decided : Option Refusal → Call → State → Done
-decided (Some e) c s = record { answer = Refused e; told = toldNothing; state = s }
+decided (Some e) c s = record { answer = Refused e; told = told_nothing; state = s }
 decided None c s = does c s.tables s
 
 abbrev pub performs : State → Call → Done

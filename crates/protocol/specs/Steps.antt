@@ -6,32 +6,44 @@ use Rattle.protocol.specs.declared.answer.Answer.{Answer}
 use Rattle.protocol.specs.declared.answer.Answer.TheVariants.{Done, GoingOn, Ended, Empty, Moved, Occupied}
 use Rattle.protocol.specs.declared.node.NodeState.{NodeState}
 use Rattle.protocol.specs.declared.node.NodeState.TheVariants.{Free, Published, Removed, Retired as RetiredBy}
-pub use Rattle.protocol.specs.declared.request.Request.{Request}
-pub use Rattle.protocol.specs.declared.request.Request.TheVariants.{Load as asksLoad, Store as asksStore, Exchange as asksExchange, Clock as asksClock, Fence as asksFence, Nothing as asksNothing}
 use Rattle.protocol.specs.declared.retired.Retired.{Retired}
 use Rattle.protocol.specs.declared.settings.Settings.{Settings}
-pub use Rattle.protocol.specs.declared.told.Told.{Told}
-pub use Rattle.protocol.specs.declared.told.Told.TheVariants.{Nothing as toldNothing, Clock as toldClock, Value as toldValue, Done as toldDone}
 use Rattle.protocol.specs.Settings.{hazard_cells, root_cell, hazard_cell, lock_cell, flag0_cell, flag1_cell}
 use Rattle.protocol.specs.Tables.{Point, Thread, idle, protect1, protect2, protect3, protect4, copy1, release1, publish1, remove1, remove2, remove3, reclaim1, reclaim2, reclaim3, owner_lock1, owner_lock2, owner_lock3, owner_lock4, owner_lock5, owner_unlock1, owner_unlock2, owner_unlock3, owner_unlock4, other_lock1, other_lock2, other_lock3, other_lock4, other_lock5, other_lock6, other_lock7, other_lock8, other_unlock1, other_unlock2, other_unlock3}
 
+-- what a step asks of the memory
+pub data Request : Type 0 where
+  asks_load : (c : ℕ) → Request
+  asks_store : (c v : ℕ) → Request
+  asks_exchange : (c old new : ℕ) → Request
+  asks_clock : Request
+  asks_fence : Request
+  asks_nothing : Request
+
+-- what the memory told in a call
+pub data Told : Type 0 where
+  told_nothing : Told
+  told_clock : (n : ℕ) → Told
+  told_value : (v : ℕ) → Told
+  told_done : (b : Bool) → Told
+
 abbrev pub clock_told : Told → ℕ
-clock_told toldNothing = 0
-clock_told (toldClock n) = n
-clock_told (toldValue v) = 0
-clock_told (toldDone b) = 0
+clock_told told_nothing = 0
+clock_told (told_clock n) = n
+clock_told (told_value v) = 0
+clock_told (told_done b) = 0
 
 abbrev pub value_told : Told → ℕ
-value_told toldNothing = 0
-value_told (toldClock n) = 0
-value_told (toldValue v) = v
-value_told (toldDone b) = 0
+value_told told_nothing = 0
+value_told (told_clock n) = 0
+value_told (told_value v) = v
+value_told (told_done b) = 0
 
 abbrev pub done_told : Told → Bool
-done_told toldNothing = false
-done_told (toldClock n) = false
-done_told (toldValue v) = false
-done_told (toldDone b) = b
+done_told told_nothing = false
+done_told (told_clock n) = false
+done_told (told_value v) = false
+done_told (told_done b) = b
 
 -- what a step sees: the settings, the memory's bound, the thread's number and row, and the nodes
 pub record Here : Type 0 where
@@ -239,40 +251,40 @@ after_other_unlock3 x = stops x (Ended 0)
 
 -- What the step at a point asks.
 abbrev pub request : Here → Point → Request
-request x idle = asksNothing
-request x (protect1 r h) = asksLoad (root_cell x.settings r)
-request x (protect2 r h n) = asksStore (hazard_cell x.settings x.thread h) n
-request x (protect3 r h n) = asksLoad (root_cell x.settings r)
-request x (protect4 r h) = asksStore (hazard_cell x.settings x.thread h) 0
-request x (copy1 a b) = asksStore (hazard_cell x.settings x.thread b) (guard_of x.own a)
-request x (release1 a) = asksStore (hazard_cell x.settings x.thread a) 0
-request x (publish1 r n) = asksExchange (root_cell x.settings r) 0 n
-request x (remove1 r) = asksLoad (root_cell x.settings r)
-request x (remove2 r n) = asksExchange (root_cell x.settings r) n 0
-request x (remove3 r n) = asksClock
-request x reclaim1 = asksClock
-request x (reclaim2 now seen) = asksLoad (x.settings.roots + length seen)
-request x (reclaim3 now seen) = asksNothing
-request x owner_lock1 = asksStore (flag0_cell x.settings) 1
-request x owner_lock2 = asksLoad (flag1_cell x.settings)
-request x (owner_lock3 v) = asksStore (flag0_cell x.settings) (word (2 * v))
-request x owner_lock4 = asksExchange (lock_cell x.settings) 0 1
-request x owner_lock5 = asksLoad (flag1_cell x.settings)
-request x owner_unlock1 = asksLoad (flag0_cell x.settings)
-request x owner_unlock2 = asksStore (flag0_cell x.settings) 0
-request x owner_unlock3 = asksStore (flag0_cell x.settings) 0
-request x owner_unlock4 = asksStore (lock_cell x.settings) 0
-request x other_lock1 = asksExchange (lock_cell x.settings) 0 (x.thread + 1)
-request x other_lock2 = asksLoad (flag1_cell x.settings)
-request x (other_lock3 v) = asksStore (flag1_cell x.settings) (word (2 * v + 1))
-request x (other_lock4 v) = asksFence
-request x (other_lock5 v) = asksClock
-request x (other_lock6 v note) = asksClock
-request x (other_lock7 v note) = asksLoad (flag0_cell x.settings)
-request x (other_lock8 v) = asksLoad (flag0_cell x.settings)
-request x other_unlock1 = asksLoad (flag1_cell x.settings)
-request x (other_unlock2 v) = asksStore (flag1_cell x.settings) (word (2 * (v + 1)))
-request x other_unlock3 = asksStore (lock_cell x.settings) 0
+request x idle = asks_nothing
+request x (protect1 r h) = asks_load (root_cell x.settings r)
+request x (protect2 r h n) = asks_store (hazard_cell x.settings x.thread h) n
+request x (protect3 r h n) = asks_load (root_cell x.settings r)
+request x (protect4 r h) = asks_store (hazard_cell x.settings x.thread h) 0
+request x (copy1 a b) = asks_store (hazard_cell x.settings x.thread b) (guard_of x.own a)
+request x (release1 a) = asks_store (hazard_cell x.settings x.thread a) 0
+request x (publish1 r n) = asks_exchange (root_cell x.settings r) 0 n
+request x (remove1 r) = asks_load (root_cell x.settings r)
+request x (remove2 r n) = asks_exchange (root_cell x.settings r) n 0
+request x (remove3 r n) = asks_clock
+request x reclaim1 = asks_clock
+request x (reclaim2 now seen) = asks_load (x.settings.roots + length seen)
+request x (reclaim3 now seen) = asks_nothing
+request x owner_lock1 = asks_store (flag0_cell x.settings) 1
+request x owner_lock2 = asks_load (flag1_cell x.settings)
+request x (owner_lock3 v) = asks_store (flag0_cell x.settings) (word (2 * v))
+request x owner_lock4 = asks_exchange (lock_cell x.settings) 0 1
+request x owner_lock5 = asks_load (flag1_cell x.settings)
+request x owner_unlock1 = asks_load (flag0_cell x.settings)
+request x owner_unlock2 = asks_store (flag0_cell x.settings) 0
+request x owner_unlock3 = asks_store (flag0_cell x.settings) 0
+request x owner_unlock4 = asks_store (lock_cell x.settings) 0
+request x other_lock1 = asks_exchange (lock_cell x.settings) 0 (x.thread + 1)
+request x other_lock2 = asks_load (flag1_cell x.settings)
+request x (other_lock3 v) = asks_store (flag1_cell x.settings) (word (2 * v + 1))
+request x (other_lock4 v) = asks_fence
+request x (other_lock5 v) = asks_clock
+request x (other_lock6 v note) = asks_clock
+request x (other_lock7 v note) = asks_load (flag0_cell x.settings)
+request x (other_lock8 v) = asks_load (flag0_cell x.settings)
+request x other_unlock1 = asks_load (flag1_cell x.settings)
+request x (other_unlock2 v) = asks_store (flag1_cell x.settings) (word (2 * (v + 1)))
+request x other_unlock3 = asks_store (lock_cell x.settings) 0
 
 -- What it does with what the memory told.
 abbrev pub after : Here → Point → Told → Outcome

@@ -1,8 +1,6 @@
 -- The machine's tables. Assumes nothing.
 use Rattle.std.specs.Prelude.{ℕ, ◌+◌, Bool, false, List, [], replicate, Option, slice_index_or}
 use Rattle.memory.specs.Meaning.{Meaning}
-pub use Rattle.protocol.specs.declared.doing.Doing.{Doing}
-pub use Rattle.protocol.specs.declared.doing.Doing.TheVariants.{Nothing as nothing, Busy as busy}
 use Rattle.protocol.specs.declared.node.NodeState.{NodeState}
 use Rattle.protocol.specs.declared.node.NodeState.TheVariants.{Free}
 use Rattle.protocol.specs.declared.operation.Operation.{Operation}
@@ -47,6 +45,11 @@ pub data Point : Type 0 where
   other_unlock1 : Point
   other_unlock2 : (v : ℕ) → Point
   other_unlock3 : Point
+
+-- an operation with its next step, or none
+pub data Doing : Type 0 where
+  nothing : Doing
+  busy : (o : Operation) (step : ℕ) → Doing
 
 abbrev pub doing_at : Point → Doing
 doing_at idle = nothing

@@ -15,7 +15,7 @@ use Rattle.protocol.specs.declared.operation.Operation.{Operation}
 use Rattle.protocol.specs.declared.settings.Settings.{Settings}
 use Rattle.protocol.specs.Begin.{named, fits, ready, roomy, sided, begun}
 use Rattle.protocol.specs.Settings.{in_range}
-use Rattle.protocol.specs.Steps.{Request, asksLoad, asksStore, asksExchange, asksClock, asksFence, asksNothing, Told, toldNothing, toldClock, toldValue, toldDone, Here, Outcome, request, after}
+use Rattle.protocol.specs.Steps.{Request, asks_load, asks_store, asks_exchange, asks_clock, asks_fence, asks_nothing, Told, told_nothing, told_clock, told_value, told_done, Here, Outcome, request, after}
 use Rattle.protocol.specs.Tables.{Point, Doing, nothing, busy, doing_at, Thread, Tables, State, thread_of, first_tables}
 
 -- The checks of each call, in their order.
@@ -58,12 +58,12 @@ begin_asks t o x =
 
 -- a storing step wants room in the store buffer; an exchange and a fence want it empty
 abbrev pub request_checks : ℕ → Meaning → Request → List (Check Refusal)
-request_checks t m (asksLoad c) = []
-request_checks t m (asksStore c v) = check (nat_lt (waiting_count m t) 8) BufferFull ∷ []
-request_checks t m (asksExchange c old new) = check (waiting_count m t == 0) WritesWaiting ∷ []
-request_checks t m asksClock = []
-request_checks t m asksFence = check (waiting_count m t == 0) WritesWaiting ∷ []
-request_checks t m asksNothing = []
+request_checks t m (asks_load c) = []
+request_checks t m (asks_store c v) = check (nat_lt (waiting_count m t) 8) BufferFull ∷ []
+request_checks t m (asks_exchange c old new) = check (waiting_count m t == 0) WritesWaiting ∷ []
+request_checks t m asks_clock = []
+request_checks t m asks_fence = check (waiting_count m t == 0) WritesWaiting ∷ []
+request_checks t m asks_nothing = []
 
 abbrev pub here : Tables → Meaning → ℕ → Here
 here x m t = record { settings = x.settings; bound = m.bound; thread = t; own = thread_of x t; nodes = x.nodes }
@@ -85,12 +85,12 @@ checks_of (Step t) s = first s.tables (step_asks t s.memory)
 
 -- the memory does what a step asks, and tells
 abbrev pub Meets : ℕ → Request → Meaning → Meaning → Told → Type 0
-Meets t (asksLoad c) m m' k = (v : ℕ) × (k ≡ toldValue v) × Loaded Lands t c m m' v
-Meets t (asksStore c v) m m' k = (k ≡ toldNothing) × Lands (stored t c v m) m'
-Meets t (asksExchange c old new) m m' k = (b : Bool) × (k ≡ toldDone b) × Exchanged Lands c old new m m' b
-Meets t asksClock m m' k = (k ≡ toldClock m.clock) × (m' ≡ m)
-Meets t asksFence m m' k = (k ≡ toldNothing) × (m' ≡ m)
-Meets t asksNothing m m' k = (k ≡ toldNothing) × (m' ≡ m)
+Meets t (asks_load c) m m' k = (v : ℕ) × (k ≡ told_value v) × Loaded Lands t c m m' v
+Meets t (asks_store c v) m m' k = (k ≡ told_nothing) × Lands (stored t c v m) m'
+Meets t (asks_exchange c old new) m m' k = (b : Bool) × (k ≡ told_done b) × Exchanged Lands c old new m m' b
+Meets t asks_clock m m' k = (k ≡ told_clock m.clock) × (m' ≡ m)
+Meets t asks_fence m m' k = (k ≡ told_nothing) × (m' ≡ m)
+Meets t asks_nothing m m' k = (k ≡ told_nothing) × (m' ≡ m)
 
 abbrev pub counted : Tables → Tables
 counted x = record { settings = x.settings; threads = x.threads; nodes = x.nodes; accepted = x.accepted + 1 }
@@ -117,9 +117,9 @@ pub record Steps (t : ℕ) (x : Tables) (m : Meaning) (s' : State) (a : Answer) 
 
 -- The call answers a, the memory tells k in it, and it leads from s to s'.
 pub data Trans (s s' : State) : Call → Answer → Told → Type 0 where
-  refuses : {c : Call} {e : Refusal} → first_no (checks_of c s) ≡ Some e → s' ≡ s → Trans s s' c (Refused e) toldNothing
-  sets_up : {z : Settings} → first_no (checks_of (SetUp z) s) ≡ None → s'.memory ≡ s.memory → s'.tables ≡ Some (first_tables z) → Trans s s' (SetUp z) Done toldNothing
-  ticks : {x : Tables} → s.tables ≡ Some x → first_no (checks_of Tick s) ≡ None → Ticks x s.memory s' → Trans s s' Tick Done toldNothing
-  lands : {t : ℕ} {x : Tables} → s.tables ≡ Some x → first_no (checks_of (Land t) s) ≡ None → LandsOne t x s.memory s' → Trans s s' (Land t) Done toldNothing
-  begins : {t o a b : ℕ} {p : Operation} {x : Tables} → s.tables ≡ Some x → named o a b ≡ Some p → first_no (checks_of (Begin t o a b) s) ≡ None → Begins t p x s.memory s' → Trans s s' (Begin t o a b) Done toldNothing
+  refuses : {c : Call} {e : Refusal} → first_no (checks_of c s) ≡ Some e → s' ≡ s → Trans s s' c (Refused e) told_nothing
+  sets_up : {z : Settings} → first_no (checks_of (SetUp z) s) ≡ None → s'.memory ≡ s.memory → s'.tables ≡ Some (first_tables z) → Trans s s' (SetUp z) Done told_nothing
+  ticks : {x : Tables} → s.tables ≡ Some x → first_no (checks_of Tick s) ≡ None → Ticks x s.memory s' → Trans s s' Tick Done told_nothing
+  lands : {t : ℕ} {x : Tables} → s.tables ≡ Some x → first_no (checks_of (Land t) s) ≡ None → LandsOne t x s.memory s' → Trans s s' (Land t) Done told_nothing
+  begins : {t o a b : ℕ} {p : Operation} {x : Tables} → s.tables ≡ Some x → named o a b ≡ Some p → first_no (checks_of (Begin t o a b) s) ≡ None → Begins t p x s.memory s' → Trans s s' (Begin t o a b) Done told_nothing
   steps : {t : ℕ} {x : Tables} {a : Answer} {k : Told} → s.tables ≡ Some x → first_no (checks_of (Step t) s) ≡ None → Steps t x s.memory s' a k → Trans s s' (Step t) a k

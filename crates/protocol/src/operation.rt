@@ -4,7 +4,7 @@ pub enum Operation {
     Protect { root: usize, hazard: usize },
     Copy { from: usize, to: usize },
     Release { hazard: usize },
-    Publish { root: usize, node: u64 },
+    Publish { root: usize, node: usize },
     Remove { root: usize },
     Reclaim,
     OwnerLock,

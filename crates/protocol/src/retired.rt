@@ -3,7 +3,7 @@ use dated::entry::Dated;
 
 #[derive(Clone, Copy)]
 pub struct Retired {
-    pub node: u64,
+    pub node: usize,
     pub date: u32,
 }
 

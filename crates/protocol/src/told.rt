@@ -1,5 +1,6 @@
 // What the memory told in a call.
 ghost use Rattle.std.specs.Prelude.{◌≡◌};
+ghost use Rattle.protocol.specs.Plain.{told_of};
 ghost use Rattle.protocol.specs.Steps.{value_told, clock_told};
 
 #[derive(Clone, Copy)]
@@ -15,7 +16,7 @@ pub enum Told {
 impl Told {
     // The value loaded, 0 where none was.
     pub fn value(self) -> u64
-        ensures { result ≡ value_told self }
+        ensures { result ≡ value_told (told_of self) }
     {
         match self {
             Told::Value(value) => value,
@@ -25,7 +26,7 @@ impl Told {
 
     // The clock read, 0 where none was.
     pub fn clock(self) -> u32
-        ensures { result ≡ clock_told self }
+        ensures { result ≡ clock_told (told_of self) }
     {
         match self {
             Told::Clock(clock) => clock,
