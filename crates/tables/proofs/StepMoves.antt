@@ -7,10 +7,8 @@ use Rattle.protocol.specs.declared.answer.Answer.TheVariants.{Refused}
 use Rattle.protocol.specs.declared.answer.Refusal.{Refusal}
 use Rattle.protocol.specs.declared.call.Call.TheVariants.{Step}
 use Rattle.protocol.specs.declared.node.NodeState.{NodeState}
-use Rattle.protocol.specs.declared.request.Request.{Request}
-use Rattle.protocol.specs.declared.told.Told.{Told}
 use Rattle.protocol.specs.Calls.{Performs}
-use Rattle.protocol.specs.Steps.{Here, Outcome, request, after}
+use Rattle.protocol.specs.Steps.{Here, Outcome, Request, Told, request, after}
 use Rattle.protocol.specs.Tables.{Thread as Row, doing_at}
 use Rattle.protocol.specs.Transition.{checks_of, request_checks, is_idle, Meets}
 use Rattle.tables.specs.declared.rows.NodeStates.{NodeStates}

@@ -5,6 +5,7 @@ ghost use Rattle.std.specs.Prelude.{◌≡◌, List};
 ghost use Rattle.machine.specs.State.{state};
 ghost use Rattle.protocol.specs.Guarantees.{Explains};
 ghost use Rattle.protocol.specs.History.{Event, settings_in};
+ghost use Rattle.protocol.specs.Plain.{doing_of};
 ghost use Rattle.protocol.specs.Questions.{HazardLaw, NamesInside, accepted_asked, accepted_shown, doing_asked, doing_shown, guard_asked, guard_shown, hazard_of, inside_asked, inside_shown, is_inside_asked, is_inside_shown, node_asked, node_shown, retired_asked, retired_shown, settings_shown};
 ghost use Rattle.std.specs.Option.{option_map};
 
@@ -86,8 +87,8 @@ impl<M: Memory> Machine<M> {
 
     // The thread's operation with its next step, or nothing. None where there is no such thread.
     pub fn doing(&self, thread: usize) -> Option<Doing>
-        ensures tables { result ≡ doing_shown (state meaning self.now).tables thread }
-        ensures history { (h : List Event) → Explains h (state meaning self.now) → result ≡ doing_asked h thread }
+        ensures tables { option_map doing_of result ≡ doing_shown (state meaning self.now).tables thread }
+        ensures history { (h : List Event) → Explains h (state meaning self.now) → option_map doing_of result ≡ doing_asked h thread }
     {
         if !self.is_set_up {
             return None;

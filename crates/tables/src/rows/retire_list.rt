@@ -23,7 +23,7 @@ impl Rule<Retired> for Sweep {
     // An entry stays that is not old, or that a loaded cell names.
     fn keeps(&self, entry: &Retired) -> bool {
         u64::from(entry.date) + u64::from(self.bound) >= u64::from(self.clock)
-            || self.loaded.names(entry.node)
+            || self.loaded.names(entry.node as u64)
     }
 }
 
@@ -67,7 +67,7 @@ impl RetireList {
         for i in 0..self.len {
             let entry = self.entries[i];
             if !sweep.keeps(&entry) {
-                nodes.mark(entry.node, NodeState::Free);
+                nodes.mark(entry.node as u64, NodeState::Free);
             }
         }
     }

@@ -43,10 +43,7 @@ fn named(number: usize, a: usize, b: usize) -> Option<Operation>
         1 => Some(Operation::Protect { root: a, hazard: b }),
         2 => Some(Operation::Copy { from: a, to: b }),
         3 => single(b, Operation::Release { hazard: a }),
-        4 => Some(Operation::Publish {
-            root: a,
-            node: b as u64,
-        }),
+        4 => Some(Operation::Publish { root: a, node: b }),
         5 => single(b, Operation::Remove { root: a }),
         6 => plain(a, b, Operation::Reclaim),
         7 => plain(a, b, Operation::OwnerLock),
@@ -66,7 +63,7 @@ fn fits(settings: &Settings, operation: Operation) -> bool
         Operation::Copy { from, to } => from < to && to < settings.hazards,
         Operation::Release { hazard } => hazard < settings.hazards,
         Operation::Publish { root, node } => {
-            root < settings.roots && 1 <= node && node <= settings.nodes as u64
+            root < settings.roots && 1 <= node && node <= settings.nodes
         }
         Operation::Remove { root } => root < settings.roots,
         Operation::Reclaim
@@ -98,7 +95,7 @@ impl Tables {
             Operation::Protect { root: _, hazard } => row.guards.at(hazard) == 0,
             Operation::Copy { from, to } => row.guards.at(to) == 0 && row.guards.at(from) != 0,
             Operation::Release { hazard } => row.guards.at(hazard) != 0,
-            Operation::Publish { root: _, node } => is_free(self.nodes.at(node as usize)),
+            Operation::Publish { root: _, node } => is_free(self.nodes.at(node)),
             Operation::Remove { root: _ }
             | Operation::Reclaim
             | Operation::OwnerLock
@@ -131,7 +128,7 @@ impl Tables {
         ensures { states_of nodes.new ≡ takes thread operation (states_of nodes.old) }
     {
         if let Operation::Publish { root: _, node } = operation {
-            nodes.mark(node, NodeState::Taken { thread });
+            nodes.mark(node as u64, NodeState::Taken { thread });
         }
     }
 

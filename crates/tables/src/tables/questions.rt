@@ -1,6 +1,7 @@
 // What the tables can be asked, once the machine is set up.
 ghost use Rattle.std.specs.Prelude.{◌≡◌, Some};
 ghost use Rattle.tables.specs.State.{tables_of};
+ghost use Rattle.protocol.specs.Plain.{doing_of};
 ghost use Rattle.protocol.specs.Questions.{accepted_shown, doing_shown, guard_shown, hazard_at, inside_shown, is_inside_shown, node_shown, retired_shown};
 ghost use Rattle.std.specs.Option.{option_map};
 
@@ -83,7 +84,7 @@ impl Tables {
     }
 
     pub fn doing(&self, thread: usize) -> Option<Doing>
-        ensures { result ≡ doing_shown (Some (tables_of self.now)) thread }
+        ensures { option_map doing_of result ≡ doing_shown (Some (tables_of self.now)) thread }
     {
         if thread >= self.layout.settings.threads {
             return None;

@@ -4,6 +4,7 @@ ghost use Rattle.tables.specs.Asked.{Asked, InCells, answer_of};
 ghost use Rattle.tables.specs.State.{running};
 ghost use Rattle.protocol.specs.Calls.{Performs};
 ghost use Rattle.protocol.specs.declared.call.Call.TheVariants.{Step};
+ghost use Rattle.protocol.specs.Plain.{request_of};
 
 use crate::context::Context;
 use crate::tables::Tables;
@@ -14,7 +15,7 @@ use protocol::told::Told;
 
 // Asks the memory for what a step wants. The cell is one of the machine's, so that only waiting writes can be in the way.
 fn ask<M: Memory>(memory: &mut M, thread: usize, request: Request) -> Result<Told, Refusal>
-    requires { (thread < 8) × (InCells request) }
+    requires { (thread < 8) × (InCells (request_of request)) }
     ensures { Asked thread request (meaning memory.old) (meaning memory.new) result }
 {
     match request {

@@ -3,6 +3,7 @@ ghost use Rattle.std.specs.Prelude.{◌≡◌, true};
 ghost use Rattle.tables.specs.Rows.{states_of};
 ghost use Rattle.tables.specs.Threads.{at, ended, fitting, here_at, on_step, outcome_of};
 ghost use Rattle.protocol.specs.declared.answer.Answer.TheVariants.{GoingOn};
+ghost use Rattle.protocol.specs.Plain.{told_of};
 ghost use Rattle.protocol.specs.Steps.{after};
 
 use crate::context::Context;
@@ -41,7 +42,7 @@ impl Thread {
         nodes: &mut NodeStates,
     ) -> Answer
         requires { fitting context.now.layout.settings self.old ≡ true }
-        ensures outcome { outcome_of self.new nodes.new result ≡ after (here_at context.now self.old (states_of nodes.old)) (at self.old) told }
+        ensures outcome { outcome_of self.new nodes.new result ≡ after (here_at context.now self.old (states_of nodes.old)) (at self.old) (told_of told) }
         ensures fits { fitting context.now.layout.settings self.new ≡ true }
     {
         let Some(operation) = self.operation else {
@@ -70,12 +71,12 @@ impl Thread {
                 self.end(Answer::Ended(0))
             }
             (Operation::Publish { root, node }, _, Told::Done(true)) => {
-                nodes.mark(node, NodeState::Published { root });
-                self.end(Answer::Ended(node))
+                nodes.mark(node as u64, NodeState::Published { root });
+                self.end(Answer::Ended(node as u64))
             }
             (Operation::Publish { root: _, node }, _, _) => {
-                nodes.mark(node, NodeState::Free);
-                self.end(Answer::Occupied(node))
+                nodes.mark(node as u64, NodeState::Free);
+                self.end(Answer::Occupied(node as u64))
             }
             (Operation::Remove { root: _ }, 1, Told::Value(node)) if node != 0 => {
                 self.node = node;
@@ -94,7 +95,7 @@ impl Thread {
             (Operation::Remove { root: _ }, 2, _) => self.end(Answer::Moved),
             (Operation::Remove { root: _ }, _, told) => {
                 self.retired.push(Retired {
-                    node: self.node,
+                    node: self.node as usize,
                     date: told.clock(),
                 });
                 nodes.mark(

@@ -2,6 +2,7 @@
 ghost use Rattle.std.specs.Prelude.{◌≡◌};
 ghost use Rattle.tables.specs.Threads.{at, last_step};
 ghost use Rattle.protocol.specs.declared.operation.Operation.{Operation};
+ghost use Rattle.protocol.specs.Plain.{doing_of};
 ghost use Rattle.protocol.specs.Tables.{doing_at};
 
 use crate::thread::Thread;
@@ -25,7 +26,7 @@ fn last_step(operation: Operation) -> u8
 impl Thread {
     // The operation with its next step. The last step of each operation stands for every further number.
     pub(crate) fn doing(&self) -> Doing
-        ensures { result ≡ doing_at (at self.now) }
+        ensures { doing_of result ≡ doing_at (at self.now) }
     {
         let Some(operation) = self.operation else {
             return Doing::Nothing;

@@ -2,6 +2,7 @@
 ghost use Rattle.std.specs.Prelude.{◌≡◌, true, List};
 ghost use Rattle.tables.specs.Threads.{at, fitting, here_at};
 ghost use Rattle.protocol.specs.declared.node.NodeState.{NodeState};
+ghost use Rattle.protocol.specs.Plain.{request_of};
 ghost use Rattle.protocol.specs.Steps.{request};
 
 use crate::context::Context;
@@ -13,7 +14,7 @@ impl Thread {
     // The last step of each operation stands for every further number.
     pub(crate) fn request(&self, context: &Context) -> Request
         requires { fitting context.now.layout.settings self.now ≡ true }
-        ensures { (ns : List NodeState) → result ≡ request (here_at context.now self.now ns) (at self.now) }
+        ensures { (ns : List NodeState) → request_of result ≡ request (here_at context.now self.now ns) (at self.now) }
     {
         let layout = context.layout;
         let thread = context.thread;
@@ -41,7 +42,7 @@ impl Thread {
             (Operation::Publish { root, node }, _) => Request::Exchange {
                 cell: root,
                 old: 0,
-                new: node,
+                new: node as u64,
             },
             (Operation::Remove { root }, 1) => Request::Load { cell: root },
             (Operation::Remove { root }, 2) => Request::Exchange {

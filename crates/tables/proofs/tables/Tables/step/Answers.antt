@@ -1,5 +1,6 @@
 use Rattle.std.proofs.Common.{◌≡◌, ◌<◌, length, get_or, Some, sym, refl, ap, ◌∙◌, arith, length-set}
 use Rattle.std.proofs.lemmas.Result.{err_from_is_err_and}
+use Rattle.protocol.specs.Plain.{request_of, told_of}
 use Rattle.protocol.specs.Tables.{thread_of}
 use Rattle.protocol.specs.Transition.{step_asks}
 use Rattle.protocol.proofs.PlacedMemory.{ranges}
@@ -49,13 +50,13 @@ returns-in-err-told g c =
     let h = c.in-err-told.ensures in
     let p = err_from_is_err_and c.from-residual.result c.from-residual.ensures.1 in
     rw p.1 (step_refused c.args.self.now (g.M.Memory.meaning c.args.memory.now) c.args.thread c.bound.result c.index-self-thread.result c.if-self-ge8000.false (omega arith) c.bound.ensures
-    (sym c.if-is-idle.ensures) c.request.result c.request.ensures (g.M.Memory.meaning c.ask.new.memory) p.0 (h.0 ∙ ap Some (sym p.2)) h.1)
+    (sym c.if-is-idle.ensures) (request_of c.request.result) c.request.ensures (g.M.Memory.meaning c.ask.new.memory) p.0 (h.0 ∙ ap Some (sym p.2)) h.1)
 
 pub returns : goal.returns
 returns g c =
     let h = c.in-ok-told.ensures in
     step_done c.args.self.now (g.M.Memory.meaning c.args.memory.now) c.args.thread c.bound.result c.index-self-thread.result c.if-self-ge8000.false (omega arith) c.bound.ensures
-    (sym c.if-is-idle.ensures) c.request.result c.request.ensures (g.M.Memory.meaning c.ask.new.memory) c.advance-answer.new.self c.advance-answer.new.nodes c.advance-answer.result c.in-ok-told.told
+    (sym c.if-is-idle.ensures) (request_of c.request.result) c.request.ensures (g.M.Memory.meaning c.ask.new.memory) c.advance-answer.new.self c.advance-answer.new.nodes c.advance-answer.result (told_of c.in-ok-told.told)
     h.0 h.1 c.advance-answer.ensures.outcome
 
 pub invariant-of-self : goal.invariant-of-self
