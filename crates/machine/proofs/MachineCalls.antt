@@ -8,9 +8,9 @@ use Rattle.protocol.specs.declared.answer.Refusal.TheVariants.{AlreadySetUp, Set
 use Rattle.protocol.specs.declared.call.Call.{Call}
 use Rattle.protocol.specs.declared.call.Call.TheVariants.{SetUp}
 use Rattle.protocol.specs.declared.settings.Settings.{Settings}
-use Rattle.protocol.specs.declared.told.Told.TheVariants.{Nothing}
 use Rattle.protocol.specs.Calls.{Performs}
 use Rattle.protocol.specs.Settings.{in_range}
+use Rattle.protocol.specs.Steps.{told_nothing}
 use Rattle.protocol.specs.Tables.{State, first_tables}
 use Rattle.protocol.specs.Transition.{checks_of, sets_up}
 use Rattle.protocol.proofs.CallsKept.{performed}
@@ -53,4 +53,4 @@ module _ (b : Bool) (x x' : Tables) (m m' : Meaning) (z : Settings) where
   pub set_up_done : b ≡ false → in_range z ≡ true → is_new m ≡ true → m' ≡ m → tables_of x' ≡ first_tables z → Performs (state_by b x m) (state_by true x' m') (SetUp z) Done
   set_up_done e f n same first =
       let passes : first_no (checks_of (SetUp z) (state_by false x m)) ≡ None = rw (f, n) refl in
-      rw e (performed (record { told = Nothing; trans = sets_up passes same (ap Some first) }))
+      rw e (performed (record { told = told_nothing; trans = sets_up passes same (ap Some first) }))

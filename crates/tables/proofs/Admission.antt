@@ -10,16 +10,14 @@ use Rattle.protocol.specs.declared.answer.Refusal.TheVariants.{CallsUsedUp, NoSu
 use Rattle.protocol.specs.declared.call.Call.{Call}
 use Rattle.protocol.specs.declared.call.Call.TheVariants.{Step}
 use Rattle.protocol.specs.declared.node.NodeState.{NodeState}
-use Rattle.protocol.specs.declared.told.Told.{Told}
-use Rattle.protocol.specs.declared.told.Told.TheVariants.{Nothing}
 use Rattle.protocol.specs.Calls.{Performs}
-use Rattle.protocol.specs.Steps.{Here, Outcome, request, after}
+use Rattle.protocol.specs.Steps.{told_nothing, Told, Here, Outcome, request, after}
 use Rattle.protocol.specs.Tables.{Tables, Thread, State, thread_of, doing_at}
 use Rattle.protocol.specs.Transition.{checks_of, first, thread_check, step_asks, request_checks, is_idle, counted, stepped, Meets, refuses, steps}
 use Rattle.protocol.proofs.CallsKept.{performed}
 
 pub refused : {s : State} {c : Call} {e : Refusal} → first_no (checks_of c s) ≡ Some e → Performs s s c (Refused e)
-refused f = performed (record { told = Nothing; trans = refuses f refl })
+refused f = performed (record { told = told_nothing; trans = refuses f refl })
 
 pub calls_used_up : (x : Tables) (rest : Tables → List (Check Refusal)) → 8000 ≤ x.accepted → first_no (first (Some x) rest) ≡ Some CallsUsedUp
 calls_used_up x rest le = rw (le-ltb x.accepted 8000 le) refl

@@ -10,10 +10,9 @@ use Rattle.protocol.specs.declared.call.Call.TheVariants.{Begin}
 use Rattle.protocol.specs.declared.node.NodeState.{NodeState}
 use Rattle.protocol.specs.declared.operation.Operation.{Operation}
 use Rattle.protocol.specs.declared.operation.Operation.TheVariants.{Protect, Copy, Release, Publish, Remove, Reclaim, OwnerLock, OwnerUnlock, OtherLock, OtherUnlock}
-use Rattle.protocol.specs.declared.told.Told.TheVariants.{Nothing}
 use Rattle.protocol.specs.Begin.{named, fits, ready, roomy, sided, start_of, takes}
 use Rattle.protocol.specs.Calls.{Performs}
-use Rattle.protocol.specs.Steps.{moved_to}
+use Rattle.protocol.specs.Steps.{told_nothing, moved_to}
 use Rattle.protocol.specs.Tables.{Tables as Table, Thread as Row, doing_at, thread_of}
 use Rattle.protocol.specs.Transition.{checks_of, begin_asks, asked, is_idle, begins as beginsBy}
 use Rattle.protocol.proofs.CallsKept.{performed}
@@ -111,7 +110,7 @@ begin_done x m t n a b d o lt passes is row' ns' e f =
     let own = get_or x.threads t d in
     let row : row_of row' ≡ moved_to (start_of o) (thread_of table t) = ap row_of e ∙ begins_row o own ∙ ap (moved_to (start_of o)) (sym (row_at x t d lt)) in
     rw (rows_set x.layout.settings.threads x.threads t row', row, f)
-    (performed (record { told = Nothing; trans = beginsBy refl is passes (record { memory = refl; tables = refl }) }))
+    (performed (record { told = told_nothing; trans = beginsBy refl is passes (record { memory = refl; tables = refl }) }))
 
 -- what it has passed
 pub begin_passed_by : (x : Tables) (m : Meaning) (t n a b : ℕ) (o : Operation) → first_no (checks_of (Begin t n a b) (running x m)) ≡ None → named n a b ≡ Some o → BeginPassed t o (tables_of x)

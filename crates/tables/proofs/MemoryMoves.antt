@@ -10,8 +10,8 @@ use Rattle.memory.proofs.Passing.{land_passed, land_passes}
 use Rattle.protocol.specs.declared.answer.Answer.TheVariants.{Done, Refused}
 use Rattle.protocol.specs.declared.answer.Refusal.TheVariants.{NoSuchThread, NothingWaiting, TickRefused}
 use Rattle.protocol.specs.declared.call.Call.TheVariants.{Land, Tick}
-use Rattle.protocol.specs.declared.told.Told.TheVariants.{Nothing}
 use Rattle.protocol.specs.Calls.{Performs}
+use Rattle.protocol.specs.Steps.{told_nothing}
 use Rattle.protocol.specs.Tables.{Tables, State}
 use Rattle.protocol.specs.Transition.{checks_of, counted, tick_asks, ticks, lands}
 use Rattle.protocol.proofs.CallsKept.{performed}
@@ -24,7 +24,7 @@ module _ (x : Tables) (m m' : Meaning) (few : x.accepted < 8000) where
   pub tick_done : first_no (tick_checks m) ≡ None → Ticked Lands m m' → Performs (at x m) (at (counted x) m') Tick Done
   tick_done f w =
       let passes : first_no (checks_of Tick (at x m)) ≡ None = calls_left x (λ _. tick_asks m) few ∙ rw f refl in
-      performed (record { told = Nothing; trans = ticks refl passes (record { memory = w; tables = refl }) })
+      performed (record { told = told_nothing; trans = ticks refl passes (record { memory = w; tables = refl }) })
 
   pub tick_refused : (e : No) → first_no (tick_checks m) ≡ Some e → m' ≡ m → Performs (at x m) (at x m') Tick (Refused TickRefused)
   tick_refused e f same = rw same (refused (calls_left x (λ _. tick_asks m) few ∙ rw f refl))
@@ -40,7 +40,7 @@ module _ (x : Tables) (m m' : Meaning) (t : ℕ) (few : x.accepted < 8000) (lt :
   pub land_done : first_no (land_checks t m) ≡ None → Lands (landed t m) m' → Performs (at x m) (at (counted x) m') (Land t) Done
   land_done f w =
       let passes = land_checks_lem true (lt-ltb 0 (waiting_count m t) (land_passed t m f).1) in
-      performed (record { told = Nothing; trans = lands refl passes (record { memory = w; tables = refl }) })
+      performed (record { told = told_nothing; trans = lands refl passes (record { memory = w; tables = refl }) })
 
   pub land_refused : (e : No) → first_no (land_checks t m) ≡ Some e → m' ≡ m → Performs (at x m) (at x m') (Land t) (Refused NothingWaiting)
   land_refused e f same = rw same (refused (land_checks_lem false (none (cases_lt 0 (waiting_count m t)))))
