@@ -1,4 +1,6 @@
 // Rows of dated entries, for every kind of entry that has a date.
+#![tactic(auto)]
+
 pub mod entry;
 pub mod row;
 #[cfg(test)]

@@ -1,4 +1,6 @@
 // Memories that processors share, with bounded store buffers: what every memory means and promises, and runs of any memory.
+#![tactic(auto)]
+
 pub mod memory;
 pub mod newness;
 pub mod refusal;

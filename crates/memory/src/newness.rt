@@ -5,7 +5,7 @@ ghost use Rattle.memory.specs.Meaning.{is_new, nothing_waits, cells_are_zero};
 use crate::memory::Memory;
 
 fn nothing_waits<M: Memory>(memory: &M) -> bool
-    ensures { result ≡ nothing_waits (meaning memory.now) }
+    ensures { result ≡ nothing_waits (M.meaning memory.now) }
 {
     for thread in 0..8 {
         if memory.waiting(thread) > 0 {
@@ -17,9 +17,9 @@ fn nothing_waits<M: Memory>(memory: &M) -> bool
 
 // Loads find every cell at 0. Where nothing waits, they land nothing.
 fn cells_are_zero<M: Memory>(memory: &mut M) -> bool
-    requires { nothing_waits (meaning memory.old) ≡ true }
-    ensures answer { result ≡ cells_are_zero (meaning memory.old) }
-    ensures same { meaning memory.new ≡ meaning memory.old }
+    requires { nothing_waits (M.meaning memory.old) ≡ true }
+    ensures answer { result ≡ cells_are_zero (M.meaning memory.old) }
+    ensures same { M.meaning memory.new ≡ M.meaning memory.old }
 {
     for cell in 0..64 {
         match memory.load(0, cell) {
@@ -36,8 +36,8 @@ fn cells_are_zero<M: Memory>(memory: &mut M) -> bool
 
 // Whether the clock is 0, nothing waits and every cell is 0; the memory means the same afterwards.
 pub fn is_new<M: Memory>(memory: &mut M) -> bool
-    ensures answer { result ≡ is_new (meaning memory.old) }
-    ensures same { meaning memory.new ≡ meaning memory.old }
+    ensures answer { result ≡ is_new (M.meaning memory.old) }
+    ensures same { M.meaning memory.new ≡ M.meaning memory.old }
 {
     if memory.clock() != 0 {
         return false;

@@ -50,7 +50,7 @@ pub enum RunFault {
 
 // Makes one call.
 pub fn perform<M: Memory>(memory: &mut M, call: Call) -> Answer
-    ensures { Performs call (meaning memory.old) (meaning memory.new) result }
+    ensures { Performs call (M.meaning memory.old) (M.meaning memory.new) result }
 {
     match call {
         Call::Store {
@@ -87,7 +87,7 @@ pub fn perform<M: Memory>(memory: &mut M, call: Call) -> Answer
 
 // Carries out the calls in their order on a new memory, and tells every answer.
 pub fn run<M: Memory>(heap: Global, memory: &mut M, calls: &[Call]) -> Result<Vec<Answer>, RunFault>
-    ensures { Carries calls.now (meaning memory.old) (meaning memory.new) result }
+    ensures { Carries calls.now (M.meaning memory.old) (M.meaning memory.new) result }
 {
     if !is_new(memory) {
         return Err(RunFault::NotNew);

@@ -4,7 +4,7 @@ use Rattle.std.proofs.lemmas.Bool.{cases_lt}
 use Rattle.dated.proofs.Dates.{rises_kept}
 use Rattle.dated.proofs.Keeping.{kept_no, kept_yes, kept_all}
 use Rattle.dated.proofs.row.keep.Goals as goal
-use Rattle.dated.proofs.row.keep.Goals.{then_Keeps, else-keeps}
+use Rattle.dated.proofs.row.keep.Goals.{then-keeps, else-keeps}
 
 -- a length past the slice is the slice's
 row-end : {X : Type 0} (xs : List X) (i len : ℕ) → i ≡ min len (length xs) → take i xs ≡ take len xs
@@ -18,7 +18,7 @@ pub loop-i-preserved : goal.loop-i-preserved
 loop-i-preserved g c =
     let lt : c.loop-i.i < length c.args.entries.now = omega arith in
     elim c.if-keeps.branch [
-      | then_Keeps w ↦
+      | then-keeps w ↦
           let yes : g.K.Rule.keeps c.args.rule.now c.index-entries-i.result ≡ true = cc in
           simp (w.entries-is, w.kept-is) (kept_yes _ _ _ _ _ _ c.loop-i.invariant lt c.index-entries-i.is yes)
       | else-keeps w ↦

@@ -26,7 +26,7 @@ pub returns : goal.returns
 returns g c =
     let some : 0 < c.args.len = omega arith in
     let within : c.args.len ≤ length c.args.entries.now = omega arith in
-    let t = turned c.args.entries.now c.rotate-left.new.self c.args.len c.index-entries-0.result some within c.index-entries-0.is c.rotate-left.ensures.after in
+    let t = turned c.args.entries.now c.rotate_left.new.self c.args.len c.index-entries-0.result some within c.index-entries-0.is c.rotate_left.ensures.after in
     record {
       answer = t.0;
       entries = t.1;

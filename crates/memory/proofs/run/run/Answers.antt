@@ -6,9 +6,9 @@ pub loop-call-preserved : goal.loop-call-preserved
 loop-call-preserved g c = (
   omega arith,
   omega arith,
-  upto_more _ _ _ _ _ _ _ _ _ c.loop-call-test.true (search rules) c.push-reserved.ensures.items c.loop-call.invariant.2 c.perform.ensures,
+  upto_more _ _ _ _ _ _ _ _ _ c.loop-call-test.true (search rules) c.push_reserved.ensures.items c.loop-call.invariant.2 c.perform.ensures,
 )
 
 pub returns : goal.returns
 returns g c =
-    upto_all _ _ _ _ _ c.loop-call-test.false (g.met.M.Memory.sound c.args.memory.now) (sym c.if-not-is-new.ensures.answer) (rw c.is-new.ensures.same at c.loop-call.invariant.2)
+    upto_all _ _ _ _ _ c.loop-call-test.false (g.met.M.Memory.sound c.args.memory.now) (sym c.if-not-is_new.ensures.answer) (rw c.is_new.ensures.same at c.loop-call.invariant.2)
