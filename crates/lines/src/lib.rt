@@ -1,4 +1,6 @@
 // Lines of a listing: what an input line says, and the bytes of a printed line.
+#![tactic(auto)]
+
 mod fields;
 pub mod head;
 pub mod line;

@@ -1,4 +1,6 @@
 // Examples of the machine that no listing can show: questions, refusals of a set-up, and lists of calls on a machine begun new.
+#![tactic(auto)]
+
 #[cfg(test)]
 mod questions;
 #[cfg(test)]

@@ -1,4 +1,6 @@
 // Reads the lines of a listing from standard input and prints the line of each to standard output.
+#![tactic(auto)]
+
 ghost use Rattle.std.specs.Prelude.{◌≡◌};
 ghost use Rattle.marker.specs.Trim.{without_newline};
 

@@ -1,4 +1,6 @@
 // Runs many listings, which standard input has one after another, each below a title. Prints each line with what it gives.
+#![tactic(auto)]
+
 use listing::listing::Listing;
 use std::io;
 use std::io::{BufRead, BufReader, BufWriter, Write};

@@ -7,7 +7,7 @@ use Rattle.protocol.specs.declared.answer.Answer.{Answer}
 use Rattle.protocol.specs.declared.call.Call.{Call}
 use Rattle.protocol.specs.Calls.{Moves, Leads, Performs, Runs, begun_new}
 use Rattle.protocol.specs.Guarantees.{Explains}
-use Rattle.protocol.specs.History.{Event, event}
+use Rattle.protocol.specs.History.{event}
 use Rattle.protocol.specs.Steps.{Told}
 use Rattle.protocol.specs.Tables.{State}
 use Rattle.protocol.specs.Transition.{Trans}

@@ -9,7 +9,6 @@ use Rattle.protocol.specs.declared.settings.Settings.{Settings}
 use Rattle.protocol.specs.Guarantees.{Explains, AtMostOneInside}
 use Rattle.protocol.specs.History.{Event}
 use Rattle.protocol.specs.Tables.{Tables, State, thread_of, owner_lock3}
-use Rattle.protocol.specs.Transition.{ticks, lands, here}
 use Rattle.protocol.proofs.Invariants.{FirstHolds, CallsKeep, settings-stay, always}
 use Rattle.protocol.proofs.LockFacts.{who_owner}
 use Rattle.protocol.proofs.LockFirst.{first_untouched, set_up_first}

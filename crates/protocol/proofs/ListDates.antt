@@ -1,5 +1,5 @@
 -- Along a retire list the dates never fall, and none is after the clock: every action keeps that. Assumes nothing.
-use Rattle.std.proofs.Common.{◌≡◌, ℕ, ◌+◌, ◌≤◌, ◌≢◌, ◌⊎◌, List, [], ◌∷◌, ◌++◌, sym, refl, inl, inr, arith}
+use Rattle.std.proofs.Common.{◌≡◌, ℕ, ◌≤◌, ◌≢◌, ◌⊎◌, List, [], ◌∷◌, ◌++◌, inl, inr, arith}
 use Rattle.std.specs.List.{AllByRecursion as All}
 use Rattle.std.specs.List.Sorted.{IsNonDecreasingBy}
 use Rattle.std.proofs.ByRecursion.{All-weaker, All-push, all_kept_by}
@@ -8,7 +8,7 @@ use Rattle.dated.proofs.Dates.{rises_append, rises_kept}
 use Rattle.protocol.specs.declared.retired.Retired.{Retired}
 use Rattle.protocol.specs.declared.settings.Settings.{Settings}
 use Rattle.protocol.specs.Steps.{keeps}
-use Rattle.protocol.proofs.GuardView.{GuardState, SameLists, Lists, Acts, GuardPath, plain, protects2, protects3, protects4, copies, releases, takes, publishes, occupied, removes, retires, scans1, scans2, sweeps, rests, lands, ticks, acts}
+use Rattle.protocol.proofs.GuardView.{GuardState, Lists, Acts, GuardPath, plain, protects2, protects3, protects4, copies, releases, takes, publishes, occupied, removes, retires, scans1, scans2, sweeps, rests, lands, ticks, acts}
 
 pub record InOrder (clock : ℕ) (l : List Retired) : Type 0 where
   pub rises : IsNonDecreasingBy (λ (e : Retired). e.date) l

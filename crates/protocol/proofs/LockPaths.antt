@@ -15,7 +15,7 @@ use Rattle.protocol.specs.declared.settings.Settings.{Settings}
 use Rattle.protocol.specs.Begin.{named, sided, start_of, takes, begun}
 use Rattle.protocol.specs.Steps.{Told, after, moved_to}
 use Rattle.protocol.specs.Tables.{Point, Tables, State, doing_at, thread_of, idle, protect1, protect2, protect3, protect4, copy1, release1, publish1, remove1, remove2, remove3, reclaim1, reclaim2, reclaim3, owner_lock1, owner_lock2, owner_lock3, owner_lock4, owner_lock5, owner_unlock1, owner_unlock2, owner_unlock3, owner_unlock4, other_lock1, other_lock2, other_lock3, other_lock4, other_lock5, other_lock6, other_lock7, other_lock8, other_unlock1, other_unlock2, other_unlock3}
-use Rattle.protocol.specs.Transition.{Trans, refuses, sets_up, ticks, lands, begins, steps, is_idle, begin_asks, step_asks, checks_of, first, here, counted, stepped}
+use Rattle.protocol.specs.Transition.{Trans, refuses, sets_up, ticks, lands, begins, steps, is_idle, begin_asks, step_asks, checks_of, here, counted, stepped}
 use Rattle.protocol.proofs.LockMemory.{same_refl, still_refl, landed_then, lands_then, ticked_on}
 use Rattle.protocol.proofs.LockSteps.{goes, step_path}
 use Rattle.protocol.proofs.LockView.{sight_of, lock_state, Goes, Acts, node, begins_owner_lock, begins_owner_unlock, begins_other_lock, begins_other_unlock, Still, LockPath, rests, ticks as ticksOn, acts}

@@ -6,7 +6,7 @@ use Rattle.protocol.specs.declared.operation.Operation.{Operation}
 use Rattle.protocol.specs.declared.operation.Operation.TheVariants.{Protect, Copy, Release, Publish, Remove, Reclaim, OwnerLock, OwnerUnlock, OtherLock, OtherUnlock}
 use Rattle.protocol.specs.declared.settings.Settings.{Settings}
 use Rattle.protocol.specs.Steps.{guard_of, moved_to, marked}
-use Rattle.protocol.specs.Tables.{Point, Thread, Tables, thread_of, node_of, idle, protect1, copy1, release1, publish1, remove1, reclaim1, owner_lock1, owner_unlock1, other_lock1, other_unlock1}
+use Rattle.protocol.specs.Tables.{Point, Thread, Tables, thread_of, node_of, protect1, copy1, release1, publish1, remove1, reclaim1, owner_lock1, owner_unlock1, other_lock1, other_unlock1}
 
 -- an operation that uses no argument, or only the first
 abbrev pub plain : ℕ → ℕ → Operation → Option Operation

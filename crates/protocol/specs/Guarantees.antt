@@ -1,6 +1,5 @@
 -- What is promised of every history. Assumes nothing.
-use Rattle.std.specs.Prelude.{◌≡◌, ℕ, ◌+◌, ◌*◌, ◌<◌, ◌≤◌, Bool, true, false, cond, ◌&&◌, List, [], ◌∷◌, length, Some, None, Option, ◌==◌}
-use Rattle.std.specs.List.{AllByRecursion as All}
+use Rattle.std.specs.Prelude.{◌≡◌, ℕ, ◌+◌, ◌<◌, ◌≤◌, Bool, true, false, cond, ◌&&◌, List, [], ◌∷◌, length, Some, None, Option, ◌==◌}
 use Rattle.std.specs.List.Sorted.{IsNonDecreasingBy}
 use Rattle.memory.specs.Calls.{Sound}
 use Rattle.protocol.specs.declared.call.Call.{Call}
@@ -10,10 +9,9 @@ use Rattle.protocol.specs.declared.node.NodeState.TheVariants.{Free, Taken, Publ
 use Rattle.protocol.specs.declared.operation.Operation.TheVariants.{Publish}
 use Rattle.protocol.specs.declared.retired.Retired.{Retired}
 use Rattle.protocol.specs.Begin.{is_free}
-use Rattle.protocol.specs.Codes.{code_of, value_of}
-use Rattle.protocol.specs.History.{Event, accepted, doing_in, guard_in, inside_in, is_reclaim, is_remove, sweep_clock_in, removing_in, list_in, names, times_freed, times_retired, state_in, free_in, root_in, accepted_in, settings_in, cells_of, last_retired_in}
-use Rattle.protocol.specs.Steps.{guard_of, value_told, word}
-use Rattle.protocol.specs.Tables.{busy, doing_at, Point, owner_lock3, other_lock3, other_unlock2, Tables, State, thread_of, node_of}
+use Rattle.protocol.specs.History.{Event, accepted, doing_in, guard_in, inside_in, is_reclaim, is_remove, sweep_clock_in, removing_in, list_in, names, times_freed, times_retired, state_in, free_in, root_in, settings_in, cells_of, last_retired_in}
+use Rattle.protocol.specs.Steps.{guard_of}
+use Rattle.protocol.specs.Tables.{busy, doing_at, Tables, State, thread_of, node_of}
 use Rattle.protocol.specs.Transition.{Trans}
 
 -- The history leads from a machine begun new, over whatever lawful memory, to the state. Set-up, accepted or refused, is a call

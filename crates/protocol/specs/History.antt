@@ -1,7 +1,6 @@
 -- Histories: the calls with their answers and with what the memory told, and what they tell by themselves. The tables are not
 -- mentioned here. A history is a list of events, newest first. Assumes nothing.
-use Rattle.std.specs.Prelude.{ℕ, ◌+◌, Bool, true, false, cond, not, ◌&&◌, ◌||◌, List, [], ◌∷◌, ◌++◌, length, Some, None, filter, Option, ◌==◌, nat_lt}
-use Rattle.memory.specs.Meaning.{any_of}
+use Rattle.std.specs.Prelude.{ℕ, ◌+◌, Bool, true, false, cond, ◌&&◌, ◌||◌, List, [], ◌∷◌, ◌++◌, Some, None, Option, ◌==◌, nat_lt}
 use Rattle.protocol.specs.declared.answer.Answer.{Answer}
 use Rattle.protocol.specs.declared.answer.Answer.TheVariants.{Done, GoingOn, Ended, Empty, Moved, Occupied, Refused}
 use Rattle.protocol.specs.declared.call.Call.{Call}
@@ -14,7 +13,7 @@ use Rattle.protocol.specs.declared.retired.Retired.{Retired}
 use Rattle.protocol.specs.declared.settings.Settings.{Settings}
 use Rattle.protocol.specs.Begin.{named}
 use Rattle.protocol.specs.Settings.{hazard_cells}
-use Rattle.protocol.specs.Steps.{Told, clock_told, value_told, done_told, kept, freed}
+use Rattle.protocol.specs.Steps.{Told, clock_told, value_told, kept, freed}
 use Rattle.protocol.specs.Tables.{Doing, nothing, busy}
 
 pub record Event : Type 0 where

@@ -1,5 +1,4 @@
 -- What the values of code that speak of requests, of what the memory told and of operations mean. Assumes nothing.
-use Rattle.std.specs.Prelude.{Bool}
 use Rattle.protocol.specs.declared.doing.Doing.{Doing as PlainDoing}
 use Rattle.protocol.specs.declared.doing.Doing.TheVariants.{Nothing as PlainNothing, Busy}
 use Rattle.protocol.specs.declared.request.Request.{Request as PlainRequest}

@@ -1,5 +1,5 @@
 -- Runs over a memory that lands nothing by itself: there each call is a function of the state. Assumes nothing.
-use Rattle.std.specs.Prelude.{ℕ, Bool, true, false, List, [], ◌∷◌, length, Some, None, Option, ◌==◌}
+use Rattle.std.specs.Prelude.{ℕ, false, List, [], ◌∷◌, Some, None, Option, ◌==◌}
 use Rattle.memory.specs.Checks.{first_no}
 use Rattle.memory.specs.Meaning.{Meaning, cell, fresh, loaded, stored, landed, exchanged, ticked}
 use Rattle.protocol.specs.declared.answer.Answer.{Answer}
@@ -12,7 +12,7 @@ use Rattle.protocol.specs.declared.operation.Operation.{Operation}
 use Rattle.protocol.specs.Begin.{named, begun}
 use Rattle.protocol.specs.Codes.{code_of, value_of}
 use Rattle.protocol.specs.History.{Event, event}
-use Rattle.protocol.specs.Steps.{Request, asks_load, asks_store, asks_exchange, asks_clock, asks_fence, asks_nothing, Told, told_nothing, told_clock, told_value, told_done, Outcome, request, after}
+use Rattle.protocol.specs.Steps.{Request, asks_load, asks_store, asks_exchange, asks_clock, asks_fence, asks_nothing, Told, told_nothing, told_clock, told_value, told_done, request, after}
 use Rattle.protocol.specs.Tables.{Tables, State, thread_of, first_tables}
 use Rattle.protocol.specs.Transition.{checks_of, here, counted, stepped}
 

@@ -16,7 +16,7 @@ use Rattle.protocol.specs.declared.settings.Settings.{Settings}
 use Rattle.protocol.specs.Begin.{named, fits, ready, roomy, sided, begun}
 use Rattle.protocol.specs.Settings.{in_range}
 use Rattle.protocol.specs.Steps.{Request, asks_load, asks_store, asks_exchange, asks_clock, asks_fence, asks_nothing, Told, told_nothing, told_clock, told_value, told_done, Here, Outcome, request, after}
-use Rattle.protocol.specs.Tables.{Point, Doing, nothing, busy, doing_at, Thread, Tables, State, thread_of, first_tables}
+use Rattle.protocol.specs.Tables.{Doing, nothing, busy, doing_at, Tables, State, thread_of, first_tables}
 
 -- The checks of each call, in their order.
 

@@ -1,4 +1,6 @@
 // The machine as definitions: its calls, operations and answers, histories, and what is proved of them.
+#![tactic(auto)]
+
 pub mod answer;
 pub mod call;
 pub mod doing;

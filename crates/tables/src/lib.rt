@@ -1,4 +1,6 @@
 // The machine's tables: threads with their operations, guards and retire lists, and the states of the nodes.
+#![tactic(auto)]
+
 mod context;
 pub mod layout;
 mod rows;
