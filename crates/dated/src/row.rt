@@ -1,7 +1,7 @@
 // A row is the first `len` entries of a slice, oldest first.
 ghost use Rattle.std.specs.Prelude.{◌≡◌, ℕ, ◌+◌, ◌-◌, ◌<◌, ◌≤◌, List, [], ◌∷◌, ◌++◌, length, take, filter, MatchOption, slice_set};
 ghost use Rattle.std.specs.List.Sorted.{IsNonDecreasingBy};
-ghost use Rattle.std.specs.List.{AllByRecursion as All};
+ghost use Rattle.std.specs.List.{AllByRecursion};
 ghost use Rattle.dated.specs.Row.{appended, first_of, without_first, kept_len, kept_in};
 
 use crate::entry::{Dated, Rule};
@@ -11,7 +11,7 @@ pub fn append<T: Dated + Copy>(entries: &mut [T], len: usize, entry: T) -> Optio
     ensures answer { result ≡ appended (length entries.old) len }
     ensures entries { entries.new ≡ slice_set entries.old len entry }
     ensures row { MatchOption result (entries.new ≡ entries.old) (λ n. take n entries.new ≡ take len entries.old ++ entry ∷ []) }
-    ensures dates { MatchOption result (entries.new ≡ entries.old) (λ n. IsNonDecreasingBy T.Dated.stamp (take len entries.old) → All (λ x. T.Dated.stamp x ≤ T.Dated.stamp entry) (take len entries.old) → IsNonDecreasingBy T.Dated.stamp (take n entries.new)) }
+    ensures dates { MatchOption result (entries.new ≡ entries.old) (λ n. IsNonDecreasingBy T.Dated.stamp (take len entries.old) → AllByRecursion (λ x. T.Dated.stamp x ≤ T.Dated.stamp entry) (take len entries.old) → IsNonDecreasingBy T.Dated.stamp (take n entries.new)) }
 {
     if len >= entries.len() {
         return None;

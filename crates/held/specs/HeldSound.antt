@@ -1,7 +1,7 @@
 -- The ghost facts of a held memory are what `Sound` says of its meaning. Assumes nothing.
 use Rattle.std.specs.Prelude.{◌≡◌, ℕ, ◌+◌, ◌-◌, ◌<◌, ◌≤◌, false, List, [], ◌∷◌, ◌++◌, map, length, get_or, Option, slice_index_or, slice_set, refl}
 use Rattle.std.proofs.Common.{sym, ap, subst, ◌∙◌, arith}
-use Rattle.std.specs.List.{AllByRecursion as All}
+use Rattle.std.specs.List.{AllByRecursion}
 use Rattle.std.specs.List.Sorted.{IsNonDecreasingBy}
 use Rattle.std.proofs.ByRecursion.{All-get_or, All-from_get_or}
 use Rattle.std.proofs.lemmas.List.{length-map, get_or_default}
@@ -86,7 +86,7 @@ lands_sound h t d b w lt e = subst Sound (sym (held_lands h t d b w lt e)) (land
 -- the oldest write is for a cell that there is
 pub oldest_in_cells : (h : Held) (t : ℕ) (d b : StoreBuffer) (w : Write)
     → t < 8 → row (slice_index_or h.buffers t d) ≡ w ∷ row b → w.cell < 64
-oldest_in_cells h t d b w lt e = (subst (All (λ (x : Write). x.cell < 64)) (held_queue h t d lt ∙ e) ((held_sound h).in_cells t)).0
+oldest_in_cells h t d b w lt e = (subst (AllByRecursion (λ (x : Write). x.cell < 64)) (held_queue h t d lt ∙ e) ((held_sound h).in_cells t)).0
 
 -- what a thread loads, by what its buffer answered
 pub held_loads : (h : Held) (t c : ℕ) (d : StoreBuffer) (found : Option ℕ)

@@ -1,6 +1,6 @@
 -- Writes that have waited as long as the bound allows: of each thread the oldest decides. Assumes nothing.
 use Rattle.std.proofs.Common.{◌≡◌, ℕ, zero, suc, ◌+◌, ◌<◌, ◌≤◌, Bool, true, false, ◌||◌, leb, ◌≢◌, ◌⊎◌, List, [], ◌∷◌, length, get_or, Some, None, Option, sym, refl, ap, ◌∙◌, subst, inl, inr, suc-le-suc, zero-le, le_of_suc-le-suc, arith}
-use Rattle.std.specs.List.{AllByRecursion as All}
+use Rattle.std.specs.List.{AllByRecursion}
 use Rattle.std.specs.List.Sorted.{IsNonDecreasingBy}
 use Rattle.std.proofs.ByRecursion.{All-weaker}
 use Rattle.std.proofs.lemmas.List.{get_or_past}
@@ -17,7 +17,7 @@ abbrev pub InTime : ℕ → ℕ → Write → Type 0
 InTime clock bound w = clock < w.date + bound
 
 pub record NoneDue (m : Meaning) : Type 0 where
-  pub rows : (t : ℕ) → All (InTime m.clock m.bound) (queue m t)
+  pub rows : (t : ℕ) → AllByRecursion (InTime m.clock m.bound) (queue m t)
 
 -- Some element passes a test, or none does.
 any_none : {X : Type 0} (p : X → Bool) (d : X) (xs : List X) → ((i : ℕ) → i < length xs → p (get_or xs i d) ≡ false) → any_of p xs ≡ false
@@ -35,11 +35,11 @@ any_some p d (x ∷ xs) zero lt e = or_left (p x) (any_of p xs) e
 any_some p d (x ∷ xs) (suc i) lt e = or_right (p x) (any_of p xs) (any_some p d xs i (le_of_suc-le-suc lt) e)
 
 -- One thread's writes.
-row_none : (m : Meaning) (ws : List Write) → All (InTime m.clock m.bound) ws → any_of (is_due m) ws ≡ false
+row_none : (m : Meaning) (ws : List Write) → AllByRecursion (InTime m.clock m.bound) ws → any_of (is_due m) ws ≡ false
 row_none m [] a = refl
 row_none m (w ∷ ws) a = or_from (is_due m w) (any_of (is_due m) ws) (lt-leb (w.date + m.bound) m.clock a.0) (row_none m ws a.1)
 
-row_all : (m : Meaning) (ws : List Write) → any_of (is_due m) ws ≡ false → All (InTime m.clock m.bound) ws
+row_all : (m : Meaning) (ws : List Write) → any_of (is_due m) ws ≡ false → AllByRecursion (InTime m.clock m.bound) ws
 row_all m [] e = tt
 row_all m (w ∷ ws) e = let p = or_parts (is_due m w) (any_of (is_due m) ws) e in (leb-false (w.date + m.bound) m.clock p.0, row_all m ws p.1)
 
@@ -50,7 +50,7 @@ none_due_lem m h = any_none (any_of (is_due m)) [] m.waiting (λ t lt. row_none 
 pub due_none : (m : Meaning) → due m ≡ false → NoneDue m
 due_none m e = record { rows = λ t. at t (cases_lt t (length m.waiting)) }
   where
-    at : (t : ℕ) → (t < length m.waiting) ⊎ (length m.waiting ≤ t) → All (InTime m.clock m.bound) (queue m t)
+    at : (t : ℕ) → (t < length m.waiting) ⊎ (length m.waiting ≤ t) → AllByRecursion (InTime m.clock m.bound) (queue m t)
     at t (inl lt) = row_all m (queue m t) (any_none_at (any_of (is_due m)) [] m.waiting e t lt)
     at t (inr le) = rw (get_or_past m.waiting t [] le) tt
 
@@ -81,12 +81,12 @@ module _ (m : Meaning) (up : (t : ℕ) → IsNonDecreasingBy date_of (queue m t)
   oldest_some_due t lt e = any_some (any_of (is_due m)) [] m.waiting t lt (oldest_tells m (queue m t) (up t) ∙ e)
 
 -- landings keep what waits in time
-rows_landed : (clock bound t : ℕ) (m : Meaning) → ((u : ℕ) → All (InTime clock bound) (queue m u)) → (u : ℕ) → All (InTime clock bound) (queue (landed t m) u)
+rows_landed : (clock bound t : ℕ) (m : Meaning) → ((u : ℕ) → AllByRecursion (InTime clock bound) (queue m u)) → (u : ℕ) → AllByRecursion (InTime clock bound) (queue (landed t m) u)
 rows_landed clock bound t m h u = elim (landed_cases t m) [ inl e ↦ rw e (h u) | inr p ↦ at p (cases_eq u t) ]
   where
-    at : Popped t m (landed t m) → (u ≡ t) ⊎ (u ≢ t) → All (InTime clock bound) (queue (landed t m) u)
+    at : Popped t m (landed t m) → (u ≡ t) ⊎ (u ≢ t) → AllByRecursion (InTime clock bound) (queue (landed t m) u)
     at p (inl e) = rw (e, p.left) (rw p.was at (h t)).1
     at p (inr ne) = rw (p.others u ne) (h u)
 
-pub rows_lands : (clock bound : ℕ) {m m' : Meaning} → Lands m m' → ((u : ℕ) → All (InTime clock bound) (queue m u)) → (u : ℕ) → All (InTime clock bound) (queue m' u)
-rows_lands clock bound l h = lands_keep (λ x. (u : ℕ) → All (InTime clock bound) (queue x u)) (rows_landed clock bound) l h
+pub rows_lands : (clock bound : ℕ) {m m' : Meaning} → Lands m m' → ((u : ℕ) → AllByRecursion (InTime clock bound) (queue m u)) → (u : ℕ) → AllByRecursion (InTime clock bound) (queue m' u)
+rows_lands clock bound l h = lands_keep (λ x. (u : ℕ) → AllByRecursion (InTime clock bound) (queue x u)) (rows_landed clock bound) l h

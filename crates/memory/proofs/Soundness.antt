@@ -1,6 +1,6 @@
 -- Every action keeps a meaning sound. Assumes nothing.
 use Rattle.std.proofs.Common.{◌≡◌, ℕ, zero, suc, ◌+◌, ◌<◌, ◌≤◌, Bool, true, false, eqb, ◌≢◌, ◌⊎◌, List, [], ◌∷◌, ◌++◌, length, get_or, replicate, sym, refl, ap, ◌∙◌, subst, inl, inr, arith}
-use Rattle.std.specs.List.{AllByRecursion as All}
+use Rattle.std.specs.List.{AllByRecursion}
 use Rattle.std.specs.List.Sorted.{IsNonDecreasingBy}
 use Rattle.std.proofs.ByRecursion.{All-push, All-weaker}
 use Rattle.std.proofs.lemmas.List.{length_push}
@@ -19,9 +19,9 @@ date_of w = w.date
 -- what a sound meaning says of the waiting writes of one thread
 pub record SoundRow (clock : ℕ) (ws : List Write) : Type 0 where
   pub room : length ws ≤ 8
-  pub in_cells : All (λ (w : Write). w.cell < 64) ws
+  pub in_cells : AllByRecursion (λ (w : Write). w.cell < 64) ws
   pub rises : IsNonDecreasingBy date_of ws
-  pub past : All (λ (w : Write). w.date ≤ clock) ws
+  pub past : AllByRecursion (λ (w : Write). w.date ≤ clock) ws
 
 pub row_of : (m : Meaning) → Sound m → (t : ℕ) → SoundRow m.clock (queue m t)
 row_of m s t = record { room = s.room t; in_cells = s.in_cells t; rises = s.rises t; past = s.past t }

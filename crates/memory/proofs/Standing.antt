@@ -1,7 +1,7 @@
 -- What stands in a memory at a moment of a run, and how each action moves it. The moment may lie within a call: the stores,
 -- the landings and the values so far are arguments. Assumes nothing.
 use Rattle.std.proofs.Common.{◌≡◌, ℕ, ◌+◌, ◌<◌, ◌≤◌, Bool, true, false, cond, ◌&&◌, eqb, ◌≢◌, ◌⊎◌, List, [], ◌∷◌, ◌++◌, length, sym, refl, ap, ◌∙◌, inl, inr, arith}
-use Rattle.std.specs.List.{AllByRecursion as All}
+use Rattle.std.specs.List.{AllByRecursion}
 use Rattle.std.specs.List.Sorted.{IsNonDecreasingBy}
 use Rattle.std.proofs.ByRecursion.{All-push, All-weaker}
 use Rattle.std.proofs.lemmas.List.{append_assoc, append-nil}
@@ -23,7 +23,7 @@ pub record Waits (clock bound : ℕ) (w : Write) : Type 0 where
 
 -- the waiting writes of one thread
 pub record Row (clock bound : ℕ) (ws : List Write) : Type 0 where
-  pub each : All (Waits clock bound) ws
+  pub each : AllByRecursion (Waits clock bound) ws
   pub rises : IsNonDecreasingBy date_of ws
 
 -- after these stores and landings, with these values in the cells and the clock at this time
@@ -156,7 +156,7 @@ exchanged_stands S L V n c old new true m inside e s = go (exchanged_puts c old 
 exchanged_stands S L V n c old new false m inside e s = rw (exchanged_none c old new m (sym e)) s
 
 -- A tick.
-later : (n b : ℕ) (ws : List Write) → All (InTime n b) ws → All (Waits n b) ws → All (Waits (n + 1) b) ws
+later : (n b : ℕ) (ws : List Write) → AllByRecursion (InTime n b) ws → AllByRecursion (Waits n b) ws → AllByRecursion (Waits (n + 1) b) ws
 later n b [] f a = tt
 later n b (w ∷ ws) f a = (record { in_cells = a.0.in_cells; past = omega (arith, a.0.past); timely = omega (arith, f.0) }, later n b ws f.1 a.1)
 

@@ -1,6 +1,6 @@
 -- What each call of a memory promises. Assumes nothing.
 use Rattle.std.specs.Prelude.{◌≡◌, ℕ, ◌<◌, ◌≤◌, Bool, true, false, List, [], ◌∷◌, length, Some, None, Ok, Err, Result, ◌==◌}
-use Rattle.std.specs.List.{AllByRecursion as All}
+use Rattle.std.specs.List.{AllByRecursion}
 use Rattle.std.specs.List.Sorted.{IsNonDecreasingBy}
 use Rattle.memory.specs.declared.write.Write.{Write}
 use Rattle.memory.specs.declared.refusal.Refusal.{Refusal}
@@ -16,9 +16,9 @@ pub record Sound (m : Meaning) : Type 0 where
   pub bound_high : m.bound ≤ 1000
   pub clock_end : m.clock ≤ 1000000
   pub room : (t : ℕ) → length (queue m t) ≤ 8
-  pub in_cells : (t : ℕ) → All (λ (w : Write). w.cell < 64) (queue m t)
+  pub in_cells : (t : ℕ) → AllByRecursion (λ (w : Write). w.cell < 64) (queue m t)
   pub rises : (t : ℕ) → IsNonDecreasingBy (λ (w : Write). w.date) (queue m t)
-  pub past : (t : ℕ) → All (λ (w : Write). w.date ≤ m.clock) (queue m t)
+  pub past : (t : ℕ) → AllByRecursion (λ (w : Write). w.date ≤ m.clock) (queue m t)
 
 -- an accepted call passes every check, and then P holds
 pub record Accepted (checks : List (Check Refusal)) (P : Type 0) : Type 0 where

@@ -1,7 +1,7 @@
 -- Whole runs of a memory: what happened, call by call, and the laws that every run keeps. A history is the list of its
 -- events, newest first. Assumes nothing.
 use Rattle.std.specs.Prelude.{◌≡◌, ℕ, ◌+◌, ◌≤◌, Bool, true, false, cond, ◌&&◌, List, [], ◌∷◌, ◌++◌, map, reverse, length, drop, Some, None, Ok, Err, vec_items, Result, Vec, ◌==◌}
-use Rattle.std.specs.List.{AllByRecursion as All}
+use Rattle.std.specs.List.{AllByRecursion}
 use Rattle.std.specs.List.Sorted.{IsNonDecreasingBy}
 use Rattle.memory.specs.declared.write.Write.{Write}
 use Rattle.memory.specs.declared.refusal.Refusal.{Refusal}
@@ -147,7 +147,7 @@ TrueAnswer h ls Tick a = Unit {0}
 pub record Lawful (h : List Event) (m : Meaning) : Type 0 where
   -- the clock counts the ticks, and no write waits beyond the bound
   pub clock : m.clock ≡ clock_in h
-  pub timely : (t : ℕ) → All (λ (w : Write). (w.date ≤ m.clock) × (m.clock ≤ w.date + m.bound)) (queue m t)
+  pub timely : (t : ℕ) → AllByRecursion (λ (w : Write). (w.date ≤ m.clock) × (m.clock ≤ w.date + m.bound)) (queue m t)
   pub rises : (t : ℕ) → IsNonDecreasingBy (λ (w : Write). w.date) (queue m t)
   -- nothing is lost, made up or reordered
   pub complete : (t : ℕ) → stores_in h t ≡ landed_in h t ++ queue m t
