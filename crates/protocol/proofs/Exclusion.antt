@@ -1,6 +1,6 @@
 -- At most one thread is inside the lock: the invariant along every history, and the theorem. Assumes nothing.
 use Rattle.std.proofs.Common.{◌≡◌, ℕ, zero, suc, ◌+◌, ◌<◌, ◌≤◌, true, ◌≢◌, ◌⊎◌, List, Some, None, Option, sym, refl, ◌∙◌, subst, inl, inr, arith}
-use Rattle.std.specs.List.{AllByRecursion as All}
+use Rattle.std.specs.List.{AllByRecursion}
 use Rattle.std.proofs.ByRecursion.{All-push, All-weaker}
 use Rattle.std.proofs.lemmas.Bool.{cases_eq}
 use Rattle.memory.specs.declared.write.Write.{Write}
@@ -25,8 +25,8 @@ use Rattle.protocol.proofs.TurnsKeep.{turns_same, turns_ticks, turns_lands}
 
 -- Waiting writes stay in time.
 
-same_times : (v v' : Sight) → v'.clock ≡ v.clock → v'.bound ≡ v.bound → (t : ℕ) → v'.writes t ≡ v.writes t → All (λ (w : Write). v.clock ≤ w.date + v.bound) (v.writes t)
-    → All (λ (w : Write). v'.clock ≤ w.date + v'.bound) (v'.writes t)
+same_times : (v v' : Sight) → v'.clock ≡ v.clock → v'.bound ≡ v.bound → (t : ℕ) → v'.writes t ≡ v.writes t → AllByRecursion (λ (w : Write). v.clock ≤ w.date + v.bound) (v.writes t)
+    → AllByRecursion (λ (w : Write). v'.clock ≤ w.date + v'.bound) (v'.writes t)
 same_times v v' c b t e a = rw (e, c, b) a
 
 times_same : (v v' : Sight) → Same v v' → Timely v → Timely v'
@@ -38,14 +38,14 @@ times_takes t n v v' s a u = same_times v v' s.clock s.bound u (s.writes u) (a u
 times_stores : (z : Settings) (t c n : ℕ) (v v' : Sight) → StoresOne z t c n v v' → Timely v → Timely v'
 times_stores z t c n v v' s a u = at (cases_eq u t)
   where
-    at : (u ≡ t) ⊎ (u ≢ t) → All (λ (w : Write). v'.clock ≤ w.date + v'.bound) (v'.writes u)
+    at : (u ≡ t) ⊎ (u ≢ t) → AllByRecursion (λ (w : Write). v'.clock ≤ w.date + v'.bound) (v'.writes u)
     at (inl e) = rw (e, s.here, s.clock, s.bound) (All-push (λ (w : Write). v.clock ≤ w.date + v.bound) (v.writes t) _ (a t) (omega arith))
     at (inr ne) = same_times v v' s.clock s.bound u (s.others u ne) (a u)
 
 times_lands : (z : Settings) (t : ℕ) (v v' : Sight) → LandsOne z t v v' → Timely v → Timely v'
 times_lands z t v v' s a u = at (cases_eq u t)
   where
-    at : (u ≡ t) ⊎ (u ≢ t) → All (λ (w : Write). v'.clock ≤ w.date + v'.bound) (v'.writes u)
+    at : (u ≡ t) ⊎ (u ≢ t) → AllByRecursion (λ (w : Write). v'.clock ≤ w.date + v'.bound) (v'.writes u)
     at (inl e) = rw (e, s.left, s.clock, s.bound) (rw s.was at (a t)).1
     at (inr ne) = same_times v v' s.clock s.bound u (s.others u ne) (a u)
 

@@ -1,7 +1,7 @@
 -- The memory as hazard pointers see it: who writes which hazard cell, what each action of the memory does to the cells and to
 -- what waits for them, and what a load gives. Assumes nothing.
 use Rattle.std.proofs.Common.{◌≡◌, ℕ, zero, suc, ◌+◌, ◌-◌, ◌*◌, ◌<◌, ◌≤◌, Bool, true, false, cond, eqb, ltb, leb, ◌≢◌, ◌⊎◌, List, [], ◌∷◌, ◌++◌, map, length, Some, None, filter, Option, sym, refl, ap, ◌∙◌, subst, inl, inr, mul_comm, mul-le-mul, arith}
-use Rattle.std.specs.List.{AllByRecursion as All}
+use Rattle.std.specs.List.{AllByRecursion}
 use Rattle.std.proofs.lemmas.List.Elements.{filter-append}
 use Rattle.std.proofs.ByRecursion.{All-push, All-weaker, all_kept_by, All-map}
 use Rattle.std.proofs.lemmas.List.{append-nil, map-append}
@@ -80,7 +80,7 @@ abbrev pub OwnWrite : Settings → ℕ → Write → Type 0
 OwnWrite z t w = w.cell < z.roots + hazard_cells z → is_hazard_of z t w ≡ true
 
 pub record Owns (z : Settings) (m : Meaning) : Type 0 where
-  pub own : (t : ℕ) → All (OwnWrite z t) (queue m t)
+  pub own : (t : ℕ) → AllByRecursion (OwnWrite z t) (queue m t)
   -- numbers that are no thread's write nothing
   pub beyond : (t : ℕ) → z.threads ≤ t → queue m t ≡ []
 
@@ -100,7 +100,7 @@ owns_landed z t m o = elim (landed_cases t m) [ inl e ↦ rw e o | inr p ↦ pop
     popped : Popped t m (landed t m) → Owns z (landed t m)
     popped p = record { own = λ u. at u (cases_eq u t); beyond = λ u far. gone u far (cases_eq u t) }
       where
-        at : (u : ℕ) → (u ≡ t) ⊎ (u ≢ t) → All (OwnWrite z u) (queue (landed t m) u)
+        at : (u : ℕ) → (u ≡ t) ⊎ (u ≢ t) → AllByRecursion (OwnWrite z u) (queue (landed t m) u)
         at u (inl e) = rw (e, p.left) (rw p.was at (o.own t)).1
         at u (inr ne) = rw (p.others u ne) (o.own u)
 
@@ -117,7 +117,7 @@ owns_stored z t c v m lt in' w o = go (stored_pushes t c v m lt)
     go : Pushed t c v m (stored t c v m) → Owns z (stored t c v m)
     go p = record { own = λ u. at u (cases_eq u t); beyond = λ u far. p.others u (λ e. omega arith) ∙ o.beyond u far }
       where
-        at : (u : ℕ) → (u ≡ t) ⊎ (u ≢ t) → All (OwnWrite z u) (queue (stored t c v m) u)
+        at : (u : ℕ) → (u ≡ t) ⊎ (u ≢ t) → AllByRecursion (OwnWrite z u) (queue (stored t c v m) u)
         at u (inl e) = rw (e, p.here) (All-push (OwnWrite z t) (queue m t) (written m c v) (o.own t) w)
         at u (inr ne) = rw (p.others u ne) (o.own u)
 
@@ -294,11 +294,11 @@ ticked_view x m none =
 -- Loads.
 
 -- no write waits for the cell
-newest_none : (found : Option ℕ) (ws : List Write) (c : ℕ) → All (λ (w : Write). w.cell ≢ c) ws → newest_or found ws c ≡ found
+newest_none : (found : Option ℕ) (ws : List Write) (c : ℕ) → AllByRecursion (λ (w : Write). w.cell ≢ c) ws → newest_or found ws c ≡ found
 newest_none found [] c a = refl
 newest_none found (w ∷ ws) c a = rw (ne_eqb w.cell c a.0) (newest_none found ws c a.1)
 
-pub loaded_cell : (m : Meaning) (t c : ℕ) → All (λ (w : Write). w.cell ≢ c) (queue m t) → loaded m t c ≡ cell m c
+pub loaded_cell : (m : Meaning) (t c : ℕ) → AllByRecursion (λ (w : Write). w.cell ≢ c) (queue m t) → loaded m t c ≡ cell m c
 unfolding loaded
 loaded_cell m t c a = rw (newest_none None (queue m t) c a) refl
 

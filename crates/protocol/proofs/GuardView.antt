@@ -1,7 +1,7 @@
 -- The machine as hazard pointers see it: the hazard cells, the waiting stores to them, guards, node states, lists and points; and
 -- how each action looks from there. Assumes nothing.
 use Rattle.std.proofs.Common.{◌≡◌, ℕ, ◌+◌, ◌-◌, ◌*◌, ◌<◌, Bool, cond, ◌&&◌, ltb, leb, ◌≢◌, List, [], ◌∷◌, ◌++◌, map, length, filter}
-use Rattle.std.specs.List.{AllByRecursion as All}
+use Rattle.std.specs.List.{AllByRecursion}
 use Rattle.memory.specs.declared.write.Write.{Write}
 use Rattle.memory.specs.Meaning.{Meaning, queue, cell}
 use Rattle.protocol.specs.declared.node.NodeState.{NodeState}
@@ -81,7 +81,7 @@ pub record StoresSlot (t i n : ℕ) (a a' : GuardState) : Type 0 where
 
 pub record TicksOn (a a' : GuardState) : Type 0 where
   pub clock : a'.clock ≡ a.clock + 1
-  pub in_time : (t : ℕ) → All (λ (w : Slot). a.clock < w.date + a.bound) (a.slots t)
+  pub in_time : (t : ℕ) → AllByRecursion (λ (w : Slot). a.clock < w.date + a.bound) (a.slots t)
   pub view : (t i : ℕ) → a'.view t i ≡ a.view t i
   pub slots : (t : ℕ) → a'.slots t ≡ a.slots t
   pub bound : a'.bound ≡ a.bound

@@ -1,6 +1,6 @@
 -- The invariant of guards. Assumes nothing.
 use Rattle.std.proofs.Common.{◌≡◌, ℕ, ◌+◌, ◌-◌, ◌*◌, ◌<◌, ◌≤◌, true, eqb, ◌≢◌, List, length}
-use Rattle.std.specs.List.{AllByRecursion as All}
+use Rattle.std.specs.List.{AllByRecursion}
 use Rattle.memory.specs.Meaning.{any_of}
 use Rattle.protocol.specs.declared.node.NodeState.{NodeState}
 use Rattle.protocol.specs.declared.node.NodeState.TheVariants.{Free, Taken, Published, Removed, Retired as RetiredBy}
@@ -33,12 +33,12 @@ pub record Guarded (z : Settings) (a : GuardState) : Type 0 where
   pub shows : (t i : ℕ) → 0 < a.guard t i → last_of (a.view t) (a.slots t) i ≡ a.guard t i
   pub protecting : (t r h n : ℕ) → a.point t ≡ protect3 r h n → last_of (a.view t) (a.slots t) h ≡ n
   -- dates of waiting stores
-  pub past : (t : ℕ) → All (λ (w : Slot). w.date ≤ a.clock) (a.slots t)
-  pub in_time : (t : ℕ) → All (λ (w : Slot). a.clock ≤ w.date + a.bound) (a.slots t)
+  pub past : (t : ℕ) → AllByRecursion (λ (w : Slot). w.date ≤ a.clock) (a.slots t)
+  pub in_time : (t : ℕ) → AllByRecursion (λ (w : Slot). a.clock ≤ w.date + a.bound) (a.slots t)
   -- a listed node is in the state that the list says
-  pub listed : (u : ℕ) → All (λ (e : Retired). a.node e.node ≡ RetiredBy u) (a.list u)
+  pub listed : (u : ℕ) → AllByRecursion (λ (e : Retired). a.node e.node ≡ RetiredBy u) (a.list u)
   -- a guarded node on a list stays visible once the stores before its retirement have landed
-  pub visible : (t i u : ℕ) → 0 < a.guard t i → All (λ (e : Retired). e.node ≡ a.guard t i → PathAfter e.date (a.view t) (a.slots t) i (a.guard t i)) (a.list u)
+  pub visible : (t i u : ℕ) → 0 < a.guard t i → AllByRecursion (λ (e : Retired). e.node ≡ a.guard t i → PathAfter e.date (a.view t) (a.slots t) i (a.guard t i)) (a.list u)
   -- a sweep comes by every guarded node that is old enough
   pub sweeping : (t i u now : ℕ) (seen : List ℕ) → 0 < a.guard t i → SweepAt z now seen (a.point u)
-      → All (λ (e : Retired). e.node ≡ a.guard t i → e.date + a.bound < now → Spotted z a u t i (a.guard t i) seen) (a.list u)
+      → AllByRecursion (λ (e : Retired). e.node ≡ a.guard t i → e.date + a.bound < now → Spotted z a u t i (a.guard t i) seen) (a.list u)

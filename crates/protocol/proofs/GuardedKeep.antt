@@ -1,7 +1,7 @@
 -- Every action keeps the invariant of guards. Assumes nothing.
 use Rattle.std.proofs.Common.{◌≡◌, ℕ, ◌+◌, ◌-◌, ◌*◌, ◌<◌, ◌≤◌, cond, not, ltb, ◌≢◌, ◌⊎◌, List, [], ◌∷◌, ◌++◌, length, sym, refl, ◌∙◌, inl, inr, arith}
 use mathlib.Core.Path.{fun_ext}
-use Rattle.std.specs.List.{ContainsAt as Has, AllByRecursion as All}
+use Rattle.std.specs.List.{ContainsAt as Has, AllByRecursion}
 use Rattle.std.proofs.ByRecursion.{All-weaker, All-push, all_kept_by, all-has, all_has_itself}
 use Rattle.std.proofs.lemmas.Bool.{cases_eq, cases_lt, eq-eqb}
 use Rattle.protocol.specs.declared.node.NodeState.{NodeState}
@@ -42,8 +42,8 @@ guarded_lands z t a a' l s g =
     (λ u i lo pos. at (λ v ws v' ws'. Path v ws lo i (a.guard u i) → Path v' ws' lo i (a.guard u i)) u (λ v w ws. path_landed v w ws lo i (a.guard u i)) (λ v ws p. p))
     (λ u i r pos. at (λ v ws v' ws'. PathAfter r v ws i (a.guard u i) → PathAfter r v' ws' i (a.guard u i)) u (λ v w ws. after_landed r v w ws i (a.guard u i)) (λ v ws p. p))
     (λ u r h n e. at (λ v ws v' ws'. last_of v ws h ≡ n → last_of v' ws' h ≡ n) u (λ v w ws p. p) (λ v ws p. p) (g.protecting u r h n e))
-    (λ u. at (λ v ws v' ws'. All (λ (w : Slot). w.date ≤ a.clock) ws → All (λ (w : Slot). w.date ≤ a.clock) ws') u (λ v w ws p. p.1) (λ v ws p. p) (g.past u))
-    (λ u. at (λ v ws v' ws'. All (λ (w : Slot). a.clock ≤ w.date + a.bound) ws → All (λ (w : Slot). a.clock ≤ w.date + a.bound) ws') u (λ v w ws p. p.1) (λ v ws p. p) (g.in_time u)))
+    (λ u. at (λ v ws v' ws'. AllByRecursion (λ (w : Slot). w.date ≤ a.clock) ws → AllByRecursion (λ (w : Slot). w.date ≤ a.clock) ws') u (λ v w ws p. p.1) (λ v ws p. p) (g.past u))
+    (λ u. at (λ v ws v' ws'. AllByRecursion (λ (w : Slot). a.clock ≤ w.date + a.bound) ws → AllByRecursion (λ (w : Slot). a.clock ≤ w.date + a.bound) ws') u (λ v w ws p. p.1) (λ v ws p. p) (g.in_time u)))
   where
     -- a thread's cells and stores before and after
     at : (P : (ℕ → ℕ) → List Slot → (ℕ → ℕ) → List Slot → Type 0) (u : ℕ)
@@ -109,7 +109,7 @@ module _ (z : Settings) (t : ℕ) (a a' : GuardState) (g : Guarded z a) where
           let y : n ≡ n' = cc in
           rw s.here (last_store (a.view t) (a.slots t) (record { index = h; value = n; date = a.clock }) h' ∙ rw (eq-eqb h h' x) y)
 
-      never_sweeps : (u i now : ℕ) (seen : List ℕ) → 0 < b.guard u i → SweepAt z now seen (protect3 r h n) → All (SpottedAs z b t u i (b.guard u i) now seen) (b.list t)
+      never_sweeps : (u i now : ℕ) (seen : List ℕ) → 0 < b.guard u i → SweepAt z now seen (protect3 r h n) → AllByRecursion (SpottedAs z b t u i (b.guard u i) now seen) (b.list t)
       never_sweeps u i now seen pos x = elim (sweep_at x) [ inl f ↦ let y : ◌≡◌ {A = ℕ} 0 1 = cc in absurd (omega arith) | inr f ↦ let y : ◌≡◌ {A = ℕ} 0 1 = cc in absurd (omega arith) ]
 
   acts_protects4 : (r h : ℕ) → a.point t ≡ protect4 r h → Goes t a a' idle → StoresSlot t h 0 a a' → SameGuards a a' → SameNodes a a' → SameLists a a' → Guarded z a'
@@ -137,7 +137,7 @@ module _ (z : Settings) (t : ℕ) (a a' : GuardState) (g : Guarded z a) where
   -- New guards.
 
   -- a node in another state than retired is on no list
-  unlisted : (n : ℕ) → ((u : ℕ) → a.node n ≡ RetiredBy u → ⊥) → (u : ℕ) → All (λ (e : Retired). e.node ≡ n → ⊥) (a.list u)
+  unlisted : (n : ℕ) → ((u : ℕ) → a.node n ≡ RetiredBy u → ⊥) → (u : ℕ) → AllByRecursion (λ (e : Retired). e.node ≡ n → ⊥) (a.list u)
   unlisted n un u = All-weaker (λ (e : Retired). a.node e.node ≡ RetiredBy u) (λ (e : Retired). e.node ≡ n → ⊥) (λ e h is. un u (rw is at h)) (a.list u) (g.listed u)
 
   acts_protects3 : (r h n : ℕ) → t < z.threads → a.point t ≡ protect3 r h n → h < z.hazards → a.node n ≡ Published r → Goes t a a' idle → SameCells a a' → Guards t h n a a' → SameNodes a a' → SameLists a a' → Guarded z a'
@@ -153,7 +153,7 @@ module _ (z : Settings) (t : ℕ) (a a' : GuardState) (g : Guarded z a) where
       b : GuardState
       b = with_point a'.point a
 
-      free : (u : ℕ) → All (λ (e : Retired). e.node ≡ n → ⊥) (a.list u)
+      free : (u : ℕ) → AllByRecursion (λ (e : Retired). e.node ≡ n → ⊥) (a.list u)
       free = unlisted n (λ u f. let y : ◌≡◌ {A = ℕ} 0 1 = cc in omega arith)
 
   acts_copies : (c d : ℕ) → a.point t ≡ copy1 c d → Goes t a a' idle → StoresSlot t d (a.guard t c) a a' → Guards t d (a.guard t c) a a' → SameNodes a a' → SameLists a a' → Guarded z a'
@@ -241,7 +241,7 @@ module _ (z : Settings) (t : ℕ) (a a' : GuardState) (g : Guarded z a) where
           path_at : (lo : ℕ) → lo ≡ 0 → Path (a.view u) (a.slots u) 0 i (a.guard u i) → Path (a.view u) (a.slots u) lo i (a.guard u i)
           path_at lo f q = rw f q
 
-      sweeping : (u i now : ℕ) (seen : List ℕ) → 0 < a.guard u i → SweepAt z now seen p → All (SpottedAs z a t u i (a.guard u i) now seen) (a.list t)
+      sweeping : (u i now : ℕ) (seen : List ℕ) → 0 < a.guard u i → SweepAt z now seen p → AllByRecursion (SpottedAs z a t u i (a.guard u i) now seen) (a.list t)
       sweeping u i now seen pos s = elim (sweep_at s) [
         | inl f ↦
             let x : now ≡ a.clock = cc in
@@ -263,16 +263,16 @@ module _ (z : Settings) (t : ℕ) (a a' : GuardState) (g : Guarded z a) where
       unlike (inl f) r h n d = let y : ◌≡◌ {A = ℕ} 0 1 = cc in absurd (omega arith)
       unlike (inr f) r h n d = let y : ◌≡◌ {A = ℕ} 0 1 = cc in absurd (omega arith)
 
-      more : (u i : ℕ) → 0 < a.guard u i → All (SpottedAs z a t u i (a.guard u i) now (seen ++ v ∷ [])) (a.list t)
+      more : (u i : ℕ) → 0 < a.guard u i → AllByRecursion (SpottedAs z a t u i (a.guard u i) now (seen ++ v ∷ [])) (a.list t)
       more u i pos =
           All-weaker (SpottedAs z a t u i (a.guard u i) now seen) (SpottedAs z a t u i (a.guard u i) now (seen ++ v ∷ []))
           (λ x h is old. scan_more z a t u i (a.guard u i) seen v (g.within u i pos).1 (g.shows u i pos) loads (h is old)) (a.list t)
           (g.sweeping u i t now seen pos (rw e (scans lt)))
 
-      sweeping : (u i now' : ℕ) (seen' : List ℕ) → 0 < a.guard u i → SweepAt z now' seen' p → All (SpottedAs z a t u i (a.guard u i) now' seen') (a.list t)
+      sweeping : (u i now' : ℕ) (seen' : List ℕ) → 0 < a.guard u i → SweepAt z now' seen' p → AllByRecursion (SpottedAs z a t u i (a.guard u i) now' seen') (a.list t)
       sweeping u i now' seen' pos x = at (sweep_at s) (sweep_at x)
         where
-          at : (p ≡ reclaim2 now (seen ++ v ∷ [])) ⊎ (p ≡ reclaim3 now (seen ++ v ∷ [])) → (p ≡ reclaim2 now' seen') ⊎ (p ≡ reclaim3 now' seen') → All (SpottedAs z a t u i (a.guard u i) now' seen') (a.list t)
+          at : (p ≡ reclaim2 now (seen ++ v ∷ [])) ⊎ (p ≡ reclaim3 now (seen ++ v ∷ [])) → (p ≡ reclaim2 now' seen') ⊎ (p ≡ reclaim3 now' seen') → AllByRecursion (SpottedAs z a t u i (a.guard u i) now' seen') (a.list t)
           at (inl f) (inl h) = let b : now' ≡ now = cc in let d : seen' ≡ seen ++ v ∷ [] = cc in rw (b, d) (more u i pos)
           at (inl f) (inr h) = let y : ◌≡◌ {A = ℕ} 0 1 = cc in absurd (omega arith)
           at (inr f) (inl h) = let y : ◌≡◌ {A = ℕ} 0 1 = cc in absurd (omega arith)
@@ -320,7 +320,7 @@ module _ (z : Settings) (t : ℕ) (a a' : GuardState) (g : Guarded z a) where
         | inr none ↦ omega arith
       ]
 
-      listed : (u : ℕ) → (u ≡ t) ⊎ (u ≢ t) → All (λ (x : Retired). a'.node x.node ≡ RetiredBy u) (a'.list u)
+      listed : (u : ℕ) → (u ≡ t) ⊎ (u ≢ t) → AllByRecursion (λ (x : Retired). a'.node x.node ≡ RetiredBy u) (a'.list u)
       listed u (inl same) =
           rw (same, l.here)
           (All-weaker (Has stay) (λ (x : Retired). a'.node x.node ≡ RetiredBy t)

@@ -2,7 +2,7 @@
 -- the nodes, the lists or the points. Assumes nothing.
 use Rattle.std.proofs.Common.{◌≡◌, ℕ, ◌+◌, ◌-◌, ◌*◌, ◌<◌, ◌≤◌, ◌≢◌, ◌⊎◌, List, [], ◌∷◌, ◌++◌, length, sym, refl, ◌∙◌, subst, inl, inr, arith}
 use mathlib.Core.Path.{fun_ext}
-use Rattle.std.specs.List.{AllByRecursion as All}
+use Rattle.std.specs.List.{AllByRecursion}
 use Rattle.std.proofs.ByRecursion.{All-weaker, All-push}
 use Rattle.std.proofs.lemmas.Bool.{cases_eq, ne_eqb}
 use Rattle.protocol.specs.declared.node.NodeState.{NodeState}
@@ -65,7 +65,7 @@ spotted_on z a b u t i n seen f (ahead_own e le) = ahead_own e le
 
 pub spotted_all : (z : Settings) (a b : GuardState) (u t i n now : ℕ) (seen : List ℕ) (l : List Retired) → b.bound ≡ a.bound
     → ((lo : ℕ) → Path (a.view t) (a.slots t) lo i n → Path (b.view t) (b.slots t) lo i n)
-    → All (SpottedAs z a u t i n now seen) l → All (SpottedAs z b u t i n now seen) l
+    → AllByRecursion (SpottedAs z a u t i n now seen) l → AllByRecursion (SpottedAs z b u t i n now seen) l
 spotted_all z a b u t i n now seen l same f =
     All-weaker (SpottedAs z a u t i n now seen) (SpottedAs z b u t i n now seen) (λ e h is old. spotted_on z a b u t i n seen f (h is (omega arith))) l
 
@@ -81,7 +81,7 @@ no_sweep h (scanned e) = h
 module _ (z : Settings) (a : GuardState) (g : Guarded z a) where
   -- The clock.
 
-  pub clock_keeps : (now : ℕ) → ((t : ℕ) → All (λ (w : Slot). w.date ≤ now) (a.slots t)) → ((t : ℕ) → All (λ (w : Slot). now ≤ w.date + a.bound) (a.slots t)) → Guarded z (with_clock now a)
+  pub clock_keeps : (now : ℕ) → ((t : ℕ) → AllByRecursion (λ (w : Slot). w.date ≤ now) (a.slots t)) → ((t : ℕ) → AllByRecursion (λ (w : Slot). now ≤ w.date + a.bound) (a.slots t)) → Guarded z (with_clock now a)
   clock_keeps now past in_time =
       record {
         within = g.within;
@@ -103,7 +103,7 @@ module _ (z : Settings) (a : GuardState) (g : Guarded z a) where
       → ((t i lo : ℕ) → 0 < a.guard t i → Path (a.view t) (a.slots t) lo i (a.guard t i) → Path (view t) (slots t) lo i (a.guard t i))
       → ((t i r : ℕ) → 0 < a.guard t i → PathAfter r (a.view t) (a.slots t) i (a.guard t i) → PathAfter r (view t) (slots t) i (a.guard t i))
       → ((t r h n : ℕ) → a.point t ≡ protect3 r h n → last_of (view t) (slots t) h ≡ n)
-      → ((t : ℕ) → All (λ (w : Slot). w.date ≤ a.clock) (slots t)) → ((t : ℕ) → All (λ (w : Slot). a.clock ≤ w.date + a.bound) (slots t))
+      → ((t : ℕ) → AllByRecursion (λ (w : Slot). w.date ≤ a.clock) (slots t)) → ((t : ℕ) → AllByRecursion (λ (w : Slot). a.clock ≤ w.date + a.bound) (slots t))
       → Guarded z (with_cells view slots a)
   cells_keeps view slots last path after protecting past in_time =
       record {
@@ -128,8 +128,8 @@ module _ (z : Settings) (a : GuardState) (g : Guarded z a) where
       (λ u i lo pos p. at (λ ws. Path (a.view u) ws lo i (a.guard u i)) u (λ e. path_store (a.view u) (a.slots u) w lo i (a.guard u i) (apart u i pos e) p) p)
       (λ u i r pos p. at (λ ws. PathAfter r (a.view u) ws i (a.guard u i)) u (λ e. after_store r (a.view u) (a.slots u) w i (a.guard u i) (apart u i pos e) p) p)
       (λ u r k m e. at (λ ws. last_of (a.view u) ws k ≡ m) u (λ f. absurd (no u r k m f e)) (g.protecting u r k m e))
-      (λ u. at (All (λ (w : Slot). w.date ≤ a.clock)) u (λ e. All-push (λ (w : Slot). w.date ≤ a.clock) (a.slots u) w (g.past u) (omega arith)) (g.past u))
-      (λ u. at (All (λ (w : Slot). a.clock ≤ w.date + a.bound)) u (λ e. All-push (λ (w : Slot). a.clock ≤ w.date + a.bound) (a.slots u) w (g.in_time u) (omega arith)) (g.in_time u))
+      (λ u. at (AllByRecursion (λ (w : Slot). w.date ≤ a.clock)) u (λ e. All-push (λ (w : Slot). w.date ≤ a.clock) (a.slots u) w (g.past u) (omega arith)) (g.past u))
+      (λ u. at (AllByRecursion (λ (w : Slot). a.clock ≤ w.date + a.bound)) u (λ e. All-push (λ (w : Slot). a.clock ≤ w.date + a.bound) (a.slots u) w (g.in_time u) (omega arith)) (g.in_time u))
     where
       w : Slot
       w = record { index = h; value = n; date = a.clock }
@@ -153,8 +153,8 @@ module _ (z : Settings) (a : GuardState) (g : Guarded z a) where
       → (0 < n → (t < z.threads) × (i < z.hazards))
       → (0 < n → InUse (a.node n))
       → (0 < n → last_of (a.view t) (a.slots t) i ≡ n)
-      → ((u : ℕ) → 0 < n → All (VisibleAs a t i n) (a.list u))
-      → ((u now : ℕ) (seen : List ℕ) → 0 < n → SweepAt z now seen (a.point u) → All (SpottedAs z a u t i n now seen) (a.list u))
+      → ((u : ℕ) → 0 < n → AllByRecursion (VisibleAs a t i n) (a.list u))
+      → ((u now : ℕ) (seen : List ℕ) → 0 < n → SweepAt z now seen (a.point u) → AllByRecursion (SpottedAs z a u t i n now seen) (a.list u))
       → Guarded z (with_guard guard a)
   guard_keeps t i n guard here elsewhere others ready within used shows visible sweeping =
       record {
@@ -166,8 +166,8 @@ module _ (z : Settings) (a : GuardState) (g : Guarded z a) where
         past = g.past;
         in_time = g.in_time;
         listed = g.listed;
-        visible = λ u k v. at (λ m. 0 < m → All (VisibleAs a u k m) (a.list v)) u k (λ e f. rw (e, f) (visible v)) (g.visible u k v);
-        sweeping = λ u k v now seen. at (λ m. 0 < m → SweepAt z now seen (a.point v) → All (SpottedAs z (with_guard guard a) v u k m now seen) (a.list v)) u k
+        visible = λ u k v. at (λ m. 0 < m → AllByRecursion (VisibleAs a u k m) (a.list v)) u k (λ e f. rw (e, f) (visible v)) (g.visible u k v);
+        sweeping = λ u k v now seen. at (λ m. 0 < m → SweepAt z now seen (a.point v) → AllByRecursion (SpottedAs z (with_guard guard a) v u k m now seen) (a.list v)) u k
             (λ e f pos s. spotted_all z a (with_guard guard a) v u k n now seen (a.list v) refl (λ lo p. p) (rw (e, f) (sweeping v now seen pos s)))
             (λ pos s. spotted_all z a (with_guard guard a) v u k (a.guard u k) now seen (a.list v) refl (λ lo p. p) (g.sweeping u k v now seen pos s));
       }
@@ -184,7 +184,7 @@ module _ (z : Settings) (a : GuardState) (g : Guarded z a) where
   -- The nodes.
 
   pub node_keeps : (node : ℕ → NodeState) → ((t i : ℕ) → 0 < a.guard t i → InUse (node (a.guard t i)))
-      → ((u : ℕ) → All (λ (e : Retired). node e.node ≡ RetiredBy u) (a.list u)) → Guarded z (with_node node a)
+      → ((u : ℕ) → AllByRecursion (λ (e : Retired). node e.node ≡ RetiredBy u) (a.list u)) → Guarded z (with_node node a)
   node_keeps node used listed =
       record {
         within = g.within;
@@ -214,8 +214,8 @@ module _ (z : Settings) (a : GuardState) (g : Guarded z a) where
   -- The lists: that of thread t, which is in no sweep.
 
   pub list_keeps : (t : ℕ) (l : List Retired) (list : ℕ → List Retired) → list t ≡ l → ((u : ℕ) → u ≢ t → list u ≡ a.list u) → PlainAt (a.point t)
-      → All (λ (e : Retired). a.node e.node ≡ RetiredBy t) l
-      → ((u i : ℕ) → 0 < a.guard u i → All (VisibleAs a u i (a.guard u i)) l)
+      → AllByRecursion (λ (e : Retired). a.node e.node ≡ RetiredBy t) l
+      → ((u i : ℕ) → 0 < a.guard u i → AllByRecursion (VisibleAs a u i (a.guard u i)) l)
       → Guarded z (with_list list a)
   list_keeps t l list here others plain listed visible =
       record {
@@ -226,9 +226,9 @@ module _ (z : Settings) (a : GuardState) (g : Guarded z a) where
         protecting = g.protecting;
         past = g.past;
         in_time = g.in_time;
-        listed = λ u. at (λ x. All (λ (e : Retired). a.node e.node ≡ RetiredBy u) x) u (λ e. rw e listed) (g.listed u);
-        visible = λ v i u pos. at (All (VisibleAs a v i (a.guard v i))) u (λ e. visible v i pos) (g.visible v i u pos);
-        sweeping = λ v i u now seen pos s. at (All (SpottedAs z (with_list list a) u v i (a.guard v i) now seen)) u
+        listed = λ u. at (λ x. AllByRecursion (λ (e : Retired). a.node e.node ≡ RetiredBy u) x) u (λ e. rw e listed) (g.listed u);
+        visible = λ v i u pos. at (AllByRecursion (VisibleAs a v i (a.guard v i))) u (λ e. visible v i pos) (g.visible v i u pos);
+        sweeping = λ v i u now seen pos s. at (AllByRecursion (SpottedAs z (with_list list a) u v i (a.guard v i) now seen)) u
             (λ e. absurd (no_sweep plain (rw e at s)))
             (spotted_all z a (with_list list a) u v i (a.guard v i) now seen (a.list u) refl (λ lo p. p) (g.sweeping v i u now seen pos s));
       }
@@ -244,7 +244,7 @@ module _ (z : Settings) (a : GuardState) (g : Guarded z a) where
   pub point_keeps : (t : ℕ) (p : Point) (point : ℕ → Point) → point t ≡ p → ((u : ℕ) → u ≢ t → point u ≡ a.point u)
       → ReadyAt z (a.guard t) p
       → ((r h n : ℕ) → p ≡ protect3 r h n → last_of (a.view t) (a.slots t) h ≡ n)
-      → ((u i now : ℕ) (seen : List ℕ) → 0 < a.guard u i → SweepAt z now seen p → All (SpottedAs z a t u i (a.guard u i) now seen) (a.list t))
+      → ((u i now : ℕ) (seen : List ℕ) → 0 < a.guard u i → SweepAt z now seen p → AllByRecursion (SpottedAs z a t u i (a.guard u i) now seen) (a.list t))
       → Guarded z (with_point point a)
   point_keeps t p point here others ready protecting sweeping =
       record {
@@ -258,7 +258,7 @@ module _ (z : Settings) (a : GuardState) (g : Guarded z a) where
         listed = g.listed;
         visible = g.visible;
         sweeping = λ v i u now seen pos s. spotted_all z a (with_point point a) u v i (a.guard v i) now seen (a.list u) refl (λ lo q. q)
-            (at (λ q. SweepAt z now seen q → All (SpottedAs z a u v i (a.guard v i) now seen) (a.list u)) u (λ e. rw e (sweeping v i now seen pos)) (g.sweeping v i u now seen pos) s);
+            (at (λ q. SweepAt z now seen q → AllByRecursion (SpottedAs z a u v i (a.guard v i) now seen) (a.list u)) u (λ e. rw e (sweeping v i now seen pos)) (g.sweeping v i u now seen pos) s);
       }
     where
       at : (P : Point → Type 0) (u : ℕ) → (u ≡ t → P p) → P (a.point u) → P (point u)

@@ -1,7 +1,7 @@
 -- A sweep over the hazard cells: at its start every old guarded node lies ahead of it, each load passes none by, and at its end
 -- none is unseen. Assumes nothing.
 use Rattle.std.proofs.Common.{◌≡◌, ℕ, zero, suc, ◌+◌, ◌-◌, ◌*◌, ◌<◌, ◌≤◌, true, false, eqb, ◌≢◌, ◌⊎◌, List, [], ◌∷◌, ◌++◌, length, sym, refl, ◌∙◌, inl, inr, mul_comm, mul-suc, arith}
-use Rattle.std.specs.List.{AllByRecursion as All}
+use Rattle.std.specs.List.{AllByRecursion}
 use Rattle.std.proofs.ByRecursion.{All-weaker}
 use Rattle.std.proofs.lemmas.List.{length_push}
 use Rattle.std.proofs.lemmas.Bool.{cases_eq, cases_lt, cases_order, eq-eqb, or_left, or_right, or_cases}
@@ -52,7 +52,7 @@ seen_last n v [] e = or_left (eqb v n) false (eq-eqb v n e)
 seen_last n v (x ∷ xs) e = or_right (eqb x n) (any_of (λ x. eqb x n) (xs ++ v ∷ [])) (seen_last n v xs e)
 
 -- The start: a store dated r or before cannot wait beyond r + bound, so none does.
-pub scan_starts : (bound now r : ℕ) (view : ℕ → ℕ) (ws : List Slot) (i n : ℕ) → r + bound < now → All (λ (w : Slot). now ≤ w.date + bound) ws
+pub scan_starts : (bound now r : ℕ) (view : ℕ → ℕ) (ws : List Slot) (i n : ℕ) → r + bound < now → AllByRecursion (λ (w : Slot). now ≤ w.date + bound) ws
     → PathAfter r view ws i n → Path view ws 0 i n
 scan_starts bound now r view ws i n old in_time =
     after_scan r view ws i n (All-weaker (λ (w : Slot). now ≤ w.date + bound) (λ (w : Slot). r < w.date) (λ w h. omega arith) ws in_time)

@@ -1,6 +1,6 @@
 -- What a sweep frees and keeps of a list: a freed node has no guard, and a kept one is not freed. Assumes nothing.
 use Rattle.std.proofs.Common.{◌≡◌, ℕ, ◌<◌, ◌≤◌, Bool, true, false, cond, not, eqb, List, [], ◌∷◌, length, filter, refl, arith}
-use Rattle.std.specs.List.{AllByRecursion as All}
+use Rattle.std.specs.List.{AllByRecursion}
 use Rattle.std.proofs.ByRecursion.{All-weaker}
 use Rattle.std.proofs.lemmas.Bool.{eqb-true, eq-eqb, ltb-true, not-false, or_parts, both_ways}
 use Rattle.memory.specs.Meaning.{any_of}
@@ -24,7 +24,7 @@ module _ (z : Settings) (a : GuardState) (u t i n now : ℕ) (seen : List ℕ) (
       let yes = scan_ends z a u t i n seen lt low all (h is (omega arith)) in
       both_ways (any_of (λ v. eqb v n) seen) (rw is at parts.1) yes
 
-  pub freed_unguarded : (l : List Retired) → All (SpottedAs z a u t i n now seen) l → names n (freed a.bound now seen l) ≡ 0
+  pub freed_unguarded : (l : List Retired) → AllByRecursion (SpottedAs z a u t i n now seen) l → names n (freed a.bound now seen l) ≡ 0
   freed_unguarded [] h = refl
   freed_unguarded (e ∷ l) (x, h) = at (keeps a.bound now seen e) refl (freed_unguarded l h)
     where
@@ -37,7 +37,7 @@ module _ (z : Settings) (a : GuardState) (u t i n now : ℕ) (seen : List ℕ) (
       at false is more = rw is (rw (other (eqb e.node n) refl is, more) refl)
 
 -- a list names its nodes
-named_all : (l : List Retired) → All (λ (e : Retired). 0 < names e.node l) l
+named_all : (l : List Retired) → AllByRecursion (λ (e : Retired). 0 < names e.node l) l
 named_all [] = tt
 named_all (e ∷ l) = (
   rw (eq-eqb e.node e.node refl) (omega arith),
@@ -45,13 +45,13 @@ named_all (e ∷ l) = (
 )
 
 -- what a list names once is not both kept and freed
-pub kept_apart : (p : Retired → Bool) (l : List Retired) → ((n : ℕ) → names n l ≤ 1) → All (λ (e : Retired). names e.node (filter (λ x. not (p x)) l) ≡ 0) (filter p l)
+pub kept_apart : (p : Retired → Bool) (l : List Retired) → ((n : ℕ) → names n l ≤ 1) → AllByRecursion (λ (e : Retired). names e.node (filter (λ x. not (p x)) l) ≡ 0) (filter p l)
 kept_apart p l once =
     All-weaker (λ (e : Retired). 0 < names e.node (filter p l)) (λ (e : Retired). names e.node (filter (λ x. not (p x)) l) ≡ 0)
     (λ e h. let x = names_parts p e.node l in let y = once e.node in omega arith) (filter p l) (named_all (filter p l))
 
 -- a named node is in the state of all listed ones
-pub named_state : (node : ℕ → NodeState) (s : NodeState) (n : ℕ) (l : List Retired) → All (λ (e : Retired). node e.node ≡ s) l → 0 < names n l → node n ≡ s
+pub named_state : (node : ℕ → NodeState) (s : NodeState) (n : ℕ) (l : List Retired) → AllByRecursion (λ (e : Retired). node e.node ≡ s) l → 0 < names n l → node n ≡ s
 named_state node s n [] h pos = absurd (omega arith)
 named_state node s n (e ∷ l) (x, h) pos = at (eqb e.node n) refl (named_state node s n l h)
   where

@@ -1,6 +1,6 @@
 -- A sweep that begins late leaves a short list: each listed date is at most that of its thread's last retirement. Assumes nothing.
 use Rattle.std.proofs.Common.{◌≡◌, ℕ, ◌+◌, ◌<◌, ◌≤◌, Bool, true, false, cond, ◌&&◌, eqb, ◌⊎◌, List, [], ◌∷◌, ◌++◌, length, Some, None, Option, sym, refl, ap, ◌∙◌, subst, inl, inr, arith}
-use Rattle.std.specs.List.{AllByRecursion as All}
+use Rattle.std.specs.List.{AllByRecursion}
 use Rattle.std.proofs.ByRecursion.{all_kept_by, All-push, All-weaker}
 use Rattle.std.proofs.lemmas.Bool.{cases_Bool, cases_eq, eqb-true, eq-eqb, and_parts, false≢true}
 use Rattle.memory.specs.Meaning.{Meaning}
@@ -25,7 +25,7 @@ use Rattle.protocol.proofs.ShownKeeps.{explains_reached}
 -- a list's dates against that of its thread's last retirement
 abbrev pub Dated : Option ℕ → List Retired → Type 0
 Dated None l = l ≡ []
-Dated (Some d) l = All (λ (e : Retired). e.date ≤ d) l
+Dated (Some d) l = AllByRecursion (λ (e : Retired). e.date ≤ d) l
 
 abbrev pub DatedBy : ℕ → List Event → ℕ → Type 0
 DatedBy b h t = Dated (last_retired_in h t) (list_in b h t)
@@ -52,7 +52,7 @@ dated_kept b now seen (Some n) l d = all_kept_by (keeps b now seen) (λ (e : Ret
 
 -- an accepted step of the thread, by its point
 dated_at : (t : ℕ) (x : Tables) (m m' : Meaning) (p : Point) (k : Told) (n b now : ℕ) (seen : List ℕ) (o : Option ℕ) (l : List Retired) → Third p
-    → Meets t (request (here x m t) p) m m' k → All (λ (e : Retired). e.date ≤ m.clock) l → Dated o l
+    → Meets t (request (here x m t) p) m m' k → AllByRecursion (λ (e : Retired). e.date ≤ m.clock) l → Dated o l
     → Dated (cond (is_remove 3 (doing_at p)) (Some (clock_told k)) o)
     (cond (is_remove 3 (doing_at p)) (l ++ record { node = n; date = clock_told k } ∷ []) (cond (is_reclaim 3 (doing_at p)) (kept b now seen l) l))
 dated_at t x m m' p k n b now seen o l removes meets past d =
@@ -75,7 +75,7 @@ module _ (b : ℕ) (h : List Event) (s s' : State) (inv : Inv s) (shown : (x : T
       let x = st.0 in
       let sh = (shown x st.1).shows in
       let p = (thread_of x t).point in
-      let past : All (λ (e : Retired). e.date ≤ s.memory.clock) (list_in b h t) = rw (sh.lists t) at ((inv.placed x st.1).dates t) in
+      let past : AllByRecursion (λ (e : Retired). e.date ≤ s.memory.clock) (list_in b h t) = rw (sh.lists t) at ((inv.placed x st.1).dates t) in
       rw (sym (sh.doing t))
       (dated_at t x s.memory s'.memory p k (answered a) b (sweep_clock_in h t) (loaded_in h t) (last_retired_in h t) (list_in b h t) (third p) st.2.memory past d)
 
@@ -110,7 +110,7 @@ named_once x m t p n = at (cases_eq n 0)
     at (inr ne) = rw (p.listed n t (omega arith)) (at_most_one (retired_in (node_of x n) t))
 
 -- A late sweep finds every entry old.
-all_old : (b now : ℕ) (o : Option ℕ) (l : List Retired) → LateAfter b now o → Dated o l → All (λ (e : Retired). e.date + b < now) l
+all_old : (b now : ℕ) (o : Option ℕ) (l : List Retired) → LateAfter b now o → Dated o l → AllByRecursion (λ (e : Retired). e.date + b < now) l
 all_old b now None l late d = rw d tt
 all_old b now (Some n) l late d = All-weaker (λ (e : Retired). e.date ≤ n) (λ (e : Retired). e.date + b < now) (λ e le. omega arith) l d
 

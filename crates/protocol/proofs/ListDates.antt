@@ -1,6 +1,6 @@
 -- Along a retire list the dates never fall, and none is after the clock: every action keeps that. Assumes nothing.
 use Rattle.std.proofs.Common.{◌≡◌, ℕ, ◌≤◌, ◌≢◌, ◌⊎◌, List, [], ◌∷◌, ◌++◌, inl, inr, arith}
-use Rattle.std.specs.List.{AllByRecursion as All}
+use Rattle.std.specs.List.{AllByRecursion}
 use Rattle.std.specs.List.Sorted.{IsNonDecreasingBy}
 use Rattle.std.proofs.ByRecursion.{All-weaker, All-push, all_kept_by}
 use Rattle.std.proofs.lemmas.Bool.{cases_eq}
@@ -12,7 +12,7 @@ use Rattle.protocol.proofs.GuardView.{GuardState, Lists, Acts, GuardPath, plain,
 
 pub record InOrder (clock : ℕ) (l : List Retired) : Type 0 where
   pub rises : IsNonDecreasingBy (λ (e : Retired). e.date) l
-  pub past : All (λ (e : Retired). e.date ≤ clock) l
+  pub past : AllByRecursion (λ (e : Retired). e.date ≤ clock) l
 
 abbrev pub Ordered : GuardState → Type 0
 Ordered a = (t : ℕ) → InOrder a.clock (a.list t)

@@ -1,7 +1,7 @@
 -- Facts that both halves of the lock's invariant use: the cells, what a thread sees in flag0, and whose point a point is. Assumes
 -- nothing.
 use Rattle.std.proofs.Common.{◌≡◌, ℕ, ◌+◌, ◌*◌, ◌≤◌, Bool, true, false, cond, eqb, ◌⊎◌, List, [], ◌∷◌, ◌++◌, Some, None, Option, sym, refl, ap, ◌∙◌, inl, inr, arith}
-use Rattle.std.specs.List.{AllByRecursion as All}
+use Rattle.std.specs.List.{AllByRecursion}
 use Rattle.std.proofs.lemmas.Bool.{cases_eq, eq-eqb, ne_eqb, eqb-false}
 use Rattle.memory.specs.declared.write.Write.{Write}
 use Rattle.memory.specs.Meaning.{newest, newest_or, value_or}
@@ -50,10 +50,10 @@ newest_sees o (w ∷ ws) c d = newest_sees (cond (eqb w.cell c) (Some w.value) o
 pub sees_from_lem : (ws : List Write) (c d : ℕ) → value_or (newest ws c) d ≡ sees_from ws c d
 sees_from_lem ws c d = newest_sees None ws c d
 
-pub sees_none : (ws : List Write) (c d : ℕ) → All (λ (w : Write). w.cell ≡ c → ⊥) ws → value_or (newest ws c) d ≡ d
+pub sees_none : (ws : List Write) (c d : ℕ) → AllByRecursion (λ (w : Write). w.cell ≡ c → ⊥) ws → value_or (newest ws c) d ≡ d
 sees_none ws c d h = sees_from_lem ws c d ∙ go ws h
   where
-    go : (us : List Write) → All (λ (w : Write). w.cell ≡ c → ⊥) us → sees_from us c d ≡ d
+    go : (us : List Write) → AllByRecursion (λ (w : Write). w.cell ≡ c → ⊥) us → sees_from us c d ≡ d
     go [] k = refl
     go (u ∷ us) k = rw (ne_eqb u.cell c k.0) (go us k.1)
 

@@ -1,6 +1,6 @@
 -- What the memory does, as the lock sees it. Assumes nothing.
 use Rattle.std.proofs.Common.{◌≡◌, ℕ, ◌<◌, ◌≤◌, Bool, true, false, cond, eqb, leb, ◌≢◌, ◌⊎◌, List, [], ◌∷◌, ◌++◌, length, Some, None, filter, Option, sym, refl, ap, subst, inl, inr, arith}
-use Rattle.std.specs.List.{AllByRecursion as All}
+use Rattle.std.specs.List.{AllByRecursion}
 use Rattle.std.proofs.lemmas.List.Elements.{filter-append}
 use Rattle.std.proofs.ByRecursion.{all_kept_by}
 use Rattle.std.proofs.lemmas.List.{nil_from_length, append-nil}
@@ -75,7 +75,7 @@ module _ (z : Settings) (t : ℕ) (m m' : Meaning) (p : Popped t m m') where
         bound = p.fixed.bound;
       }
     where
-      all : All (λ (w : Write). w.cell < 64) (p.write ∷ p.rest)
+      all : AllByRecursion (λ (w : Write). w.cell < 64) (p.write ∷ p.rest)
       all = rw p.was at (s.in_cells t)
 
       inside : p.write.cell < length m.cells

@@ -1,7 +1,7 @@
 -- The machine as the lock sees it: the lock word L, flag0, flag1, the waiting writes to them, where each thread is and whether it
 -- is inside; and how each action looks from there. Assumes nothing.
 use Rattle.std.proofs.Common.{◌≡◌, ℕ, ◌+◌, ◌*◌, ◌/◌, ◌%◌, ◌<◌, ◌≤◌, Bool, true, false, cond, eqb, leb, ◌≢◌, List, [], ◌∷◌, ◌++◌, filter}
-use Rattle.std.specs.List.{AllByRecursion as All}
+use Rattle.std.specs.List.{AllByRecursion}
 use Rattle.memory.specs.declared.write.Write.{Write}
 use Rattle.memory.specs.Meaning.{Meaning, queue, cell, newest, value_or}
 use Rattle.protocol.specs.declared.settings.Settings.{Settings}
@@ -101,7 +101,7 @@ pub record TakesLock (t n : ℕ) (v v' : Sight) : Type 0 where
 -- the clock moves, and no write that waits is due
 pub record TicksOn (v v' : Sight) : Type 0 where
   pub clock : v'.clock ≡ v.clock + 1
-  pub in_time : (t : ℕ) → All (λ (w : Write). v.clock < w.date + v.bound) (v.writes t)
+  pub in_time : (t : ℕ) → AllByRecursion (λ (w : Write). v.clock < w.date + v.bound) (v.writes t)
   pub lock : v'.lock ≡ v.lock
   pub flag0 : v'.flag0 ≡ v.flag0
   pub flag1 : v'.flag1 ≡ v.flag1

@@ -1,6 +1,6 @@
 -- The invariant of the lock. Assumes nothing.
 use Rattle.std.proofs.Common.{◌≡◌, ℕ, ◌+◌, ◌*◌, ◌≤◌, Bool, true, false, cond, eqb, ◌⊎◌, List, [], ◌∷◌}
-use Rattle.std.specs.List.{AllByRecursion as All}
+use Rattle.std.specs.List.{AllByRecursion}
 use Rattle.memory.specs.declared.write.Write.{Write}
 use Rattle.protocol.specs.declared.settings.Settings.{Settings}
 use Rattle.protocol.specs.Settings.{lock_cell, flag0_cell, flag1_cell}
@@ -98,7 +98,7 @@ pub data InLoop : Point → Type 0 where
 -- no value of flag0, landed or waiting, echoes the version v
 pub record NoEcho (z : Settings) (v f0 : ℕ) (ws : List Write) : Type 0 where
   pub landed : f0 ≡ 2 * v → ⊥
-  pub waiting : All (λ (w : Write). w.cell ≡ flag0_cell z → w.value ≡ 2 * v → ⊥) ws
+  pub waiting : AllByRecursion (λ (w : Write). w.cell ≡ flag0_cell z → w.value ≡ 2 * v → ⊥) ws
 
 -- while the owner is inside by flag0 = 1: a thread that waits has noted a clock no earlier than the owner's writes of flag0, and one
 -- that has waited finds flag0 landed
@@ -131,9 +131,9 @@ TimedAt z f0 ws other_lock2 = Unit {0}
 TimedAt z f0 ws (other_lock3 v) = Unit {0}
 TimedAt z f0 ws (other_lock4 v) = Unit {0}
 TimedAt z f0 ws (other_lock5 v) = Unit {0}
-TimedAt z f0 ws (other_lock6 v note) = All (λ (w : Write). w.cell ≡ flag0_cell z → w.date ≤ note) ws
-TimedAt z f0 ws (other_lock7 v note) = All (λ (w : Write). w.cell ≡ flag0_cell z → w.date ≤ note) ws
-TimedAt z f0 ws (other_lock8 v) = (f0 ≡ 1) × All (λ (w : Write). w.cell ≡ flag0_cell z → ⊥) ws
+TimedAt z f0 ws (other_lock6 v note) = AllByRecursion (λ (w : Write). w.cell ≡ flag0_cell z → w.date ≤ note) ws
+TimedAt z f0 ws (other_lock7 v note) = AllByRecursion (λ (w : Write). w.cell ≡ flag0_cell z → w.date ≤ note) ws
+TimedAt z f0 ws (other_lock8 v) = (f0 ≡ 1) × AllByRecursion (λ (w : Write). w.cell ≡ flag0_cell z → ⊥) ws
 TimedAt z f0 ws other_unlock1 = Unit {0}
 TimedAt z f0 ws (other_unlock2 v) = Unit {0}
 TimedAt z f0 ws other_unlock3 = Unit {0}
@@ -147,14 +147,14 @@ pub record Turns (z : Settings) (a : LockState) : Type 0 where
   -- versions stay below the number of calls
   pub few : a.sight.flag1 ≤ 2 * a.count + 1
   pub few_kept : (u v : ℕ) → a.point u ≡ other_lock3 v → v ≤ a.count
-  pub few_waiting : (u : ℕ) → 1 ≤ u → All (λ (w : Write). w.value ≤ 2 * a.count + 1) (a.sight.writes u)
+  pub few_waiting : (u : ℕ) → 1 ≤ u → AllByRecursion (λ (w : Write). w.value ≤ 2 * a.count + 1) (a.sight.writes u)
 
 -- The half of flag0, echoes and time.
 pub record Owned (z : Settings) (a : LockState) : Type 0 where
-  pub writes : All (OwnerWrite z a.sight.flag1) (a.sight.writes 0)
+  pub writes : AllByRecursion (OwnerWrite z a.sight.flag1) (a.sight.writes 0)
   pub flag0 : Flag0 a.sight.flag1 a.sight.flag0
   pub at : OwnerAt a.sight.flag1 (sees0 z a.sight 0) (a.point 0) (a.inside 0)
-  pub dates : All (λ (w : Write). w.date ≤ a.sight.clock) (a.sight.writes 0)
+  pub dates : AllByRecursion (λ (w : Write). w.date ≤ a.sight.clock) (a.sight.writes 0)
   pub echoes : (v : ℕ) → a.sight.flag1 ≡ 2 * (v + 1) + 1 → InLoop (a.point 0) ⊎ NoEcho z (v + 1) a.sight.flag0 (a.sight.writes 0)
   pub timed : (u : ℕ) → 1 ≤ u → a.inside 0 ≡ true → sees0 z a.sight 0 ≡ 1 → TimedAt z a.sight.flag0 (a.sight.writes 0) (a.point u)
   pub alone : (u : ℕ) → 1 ≤ u → a.inside u ≡ true → a.inside 0 ≡ false

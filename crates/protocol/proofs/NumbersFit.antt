@@ -1,7 +1,7 @@
 -- Every number of a history fits: codes and values of answers, what the memory told, the number of accepted calls, and the flags of
 -- the lock. Assumes nothing.
 use Rattle.std.proofs.Common.{◌≡◌, ℕ, zero, suc, ◌+◌, ◌*◌, ◌<◌, ◌≤◌, true, false, not, eqb, ltb, List, [], ◌∷◌, length, Some, None, Option, sym, refl, ap, ◌∙◌, inl, inr, arith}
-use Rattle.std.specs.List.{AllByRecursion as All}
+use Rattle.std.specs.List.{AllByRecursion}
 use Rattle.std.proofs.ByRecursion.{All-weaker}
 use Rattle.std.proofs.lemmas.List.Sums.{length-filter, count_by-le-length}
 use Rattle.std.proofs.lemmas.Bool.{cases_eq, cases_lt, eq-eqb, eqb-true, or_left, or_right, cond_both}
@@ -190,7 +190,7 @@ explains_few h s led = go s.tables refl
 
 -- The theorem.
 
-all_fit : (h : List Event) (s : State) → Explains h s → All NumbersFit h
+all_fit : (h : List Event) (s : State) → Explains h s → AllByRecursion NumbersFit h
 all_fit [] s led = tt
 all_fit (e ∷ h) s' (s, led, w) = (call_fits h s s' led w, all_fit h s led)
 

@@ -1,6 +1,6 @@
 -- The half of flag0, echoes and time is kept by every begin and step. Assumes nothing.
 use Rattle.std.proofs.Common.{◌≡◌, ℕ, ◌+◌, ◌*◌, ◌/◌, ◌%◌, ◌<◌, ◌≤◌, Bool, true, false, ◌≢◌, ◌⊎◌, [], ◌∷◌, ◌++◌, sym, refl, ap, ◌∙◌, inl, inr, arith}
-use Rattle.std.specs.List.{AllByRecursion as All}
+use Rattle.std.specs.List.{AllByRecursion}
 use Rattle.std.proofs.ByRecursion.{All-weaker, All-push}
 use Rattle.std.proofs.lemmas.Bool.{cases_eq, cases_Bool, both_ways}
 use Rattle.memory.specs.declared.write.Write.{Write}
@@ -263,7 +263,7 @@ module _ (z : Settings) (t : ℕ) (a a' : LockState) (turns : Turns z a) (o : Ow
       -- not by flag0
       fast : a.inside 0 ≡ true → sees0 z a.sight 0 ≡ 1 → ⊥
       fast i own =
-          let found : (a.sight.flag0 ≡ 1) × All (λ (x : Write). x.cell ≡ flag0_cell z → ⊥) (a.sight.writes 0) = rw e at (o.timed t h i own) in
+          let found : (a.sight.flag0 ≡ 1) × AllByRecursion (λ (x : Write). x.cell ≡ flag0_cell z → ⊥) (a.sight.writes 0) = rw e at (o.timed t h i own) in
           let x = found.0 in
           let y = even in
           omega arith

@@ -1,6 +1,6 @@
 -- Which points are timed, what the owner sees in flag0, and the two ways in which another thread's wait ends. Assumes nothing.
 use Rattle.std.proofs.Common.{◌≡◌, ℕ, ◌+◌, ◌*◌, ◌/◌, ◌%◌, ◌<◌, ◌≤◌, Bool, true, false, cond, eqb, ◌≢◌, List, [], ◌∷◌, sym, refl, ap, ◌∙◌, inl, inr, arith}
-use Rattle.std.specs.List.{AllByRecursion as All}
+use Rattle.std.specs.List.{AllByRecursion}
 use Rattle.std.proofs.ByRecursion.{All-weaker}
 use Rattle.std.proofs.lemmas.Bool.{eqb-true, cond_both}
 use Rattle.memory.specs.declared.write.Write.{Write}
@@ -67,8 +67,8 @@ unwaiting_timed z f0 ws p n = go (timed_case p) n
 
 -- what is asked of a thread that waits, after another step of the owner's writes
 pub timed_moves : (z : Settings) (f0 f0' : ℕ) (ws ws' : List Write) (p : Point)
-    → ((note : ℕ) → All (λ (w : Write). w.cell ≡ flag0_cell z → w.date ≤ note) ws → All (λ (w : Write). w.cell ≡ flag0_cell z → w.date ≤ note) ws')
-    → ((f0 ≡ 1) × All (λ (w : Write). w.cell ≡ flag0_cell z → ⊥) ws → (f0' ≡ 1) × All (λ (w : Write). w.cell ≡ flag0_cell z → ⊥) ws') → TimedAt z f0 ws p → TimedAt z f0' ws' p
+    → ((note : ℕ) → AllByRecursion (λ (w : Write). w.cell ≡ flag0_cell z → w.date ≤ note) ws → AllByRecursion (λ (w : Write). w.cell ≡ flag0_cell z → w.date ≤ note) ws')
+    → ((f0 ≡ 1) × AllByRecursion (λ (w : Write). w.cell ≡ flag0_cell z → ⊥) ws → (f0' ≡ 1) × AllByRecursion (λ (w : Write). w.cell ≡ flag0_cell z → ⊥) ws') → TimedAt z f0 ws p → TimedAt z f0' ws' p
 timed_moves z f0 f0' ws ws' p dated found x = go (timed_case p) x
   where
     go : {q : Point} → TimedCase q → TimedAt z f0 ws q → TimedAt z f0' ws' q
@@ -149,21 +149,21 @@ flag0_version up v e = absurd (omega arith)
 flag0_version (echo w k) v e = omega arith
 
 -- what the owner sees in flag0 is such a value too
-pub own_flag0 : (z : Settings) (f1 f0 : ℕ) (ws : List Write) → All (OwnerWrite z f1) ws → Flag0 f1 f0 → Flag0 f1 (value_or (newest ws (flag0_cell z)) f0)
+pub own_flag0 : (z : Settings) (f1 f0 : ℕ) (ws : List Write) → AllByRecursion (OwnerWrite z f1) ws → Flag0 f1 f0 → Flag0 f1 (value_or (newest ws (flag0_cell z)) f0)
 own_flag0 z f1 f0 ws h k = rw (sees_from_lem ws (flag0_cell z) f0) (go ws f0 h k)
   where
     value : (w : Write) → OwnerWrite z f1 w → w.cell ≡ flag0_cell z → Flag0 f1 w.value
     value w (flags c x) e = x
     value w (releases c x) e = absurd (omega arith)
 
-    go : (us : List Write) (x : ℕ) → All (OwnerWrite z f1) us → Flag0 f1 x → Flag0 f1 (sees_from us (flag0_cell z) x)
+    go : (us : List Write) (x : ℕ) → AllByRecursion (OwnerWrite z f1) us → Flag0 f1 x → Flag0 f1 (sees_from us (flag0_cell z) x)
     go [] x a b = b
     go (u ∷ us) x a b =
         go us (cond (eqb u.cell (flag0_cell z)) u.value x) a.1
         (cond_both (eqb u.cell (flag0_cell z)) u.value x (Flag0 f1) (λ e. value u a.0 (eqb-true u.cell (flag0_cell z) e)) (λ e. b))
 
 -- the owner sees flag1 as it is
-pub own_flag1 : (z : Settings) (f1 : ℕ) (ws : List Write) → All (OwnerWrite z f1) ws → value_or (newest ws (flag1_cell z)) f1 ≡ f1
+pub own_flag1 : (z : Settings) (f1 : ℕ) (ws : List Write) → AllByRecursion (OwnerWrite z f1) ws → value_or (newest ws (flag1_cell z)) f1 ≡ f1
 own_flag1 z f1 ws h = sees_none ws (flag1_cell z) f1 (All-weaker (OwnerWrite z f1) (λ (w : Write). w.cell ≡ flag1_cell z → ⊥) no ws h)
   where
     no : (w : Write) → OwnerWrite z f1 w → w.cell ≡ flag1_cell z → ⊥
@@ -171,15 +171,15 @@ own_flag1 z f1 ws h = sees_none ws (flag1_cell z) f1 (All-weaker (OwnerWrite z f
     no w (releases c x) e = omega arith
 
 -- The bound: a thread that has waited longer than it since it noted the clock finds the owner's flag0 landed.
-pub waited_landed : (z : Settings) (s : Sight) (note : ℕ) → note + s.bound < s.clock → All (λ (w : Write). w.cell ≡ flag0_cell z → w.date ≤ note) (s.writes 0)
-    → All (λ (w : Write). s.clock ≤ w.date + s.bound) (s.writes 0) → sees0 z s 0 ≡ 1 → (s.flag0 ≡ 1) × All (λ (w : Write). w.cell ≡ flag0_cell z → ⊥) (s.writes 0)
+pub waited_landed : (z : Settings) (s : Sight) (note : ℕ) → note + s.bound < s.clock → AllByRecursion (λ (w : Write). w.cell ≡ flag0_cell z → w.date ≤ note) (s.writes 0)
+    → AllByRecursion (λ (w : Write). s.clock ≤ w.date + s.bound) (s.writes 0) → sees0 z s 0 ≡ 1 → (s.flag0 ≡ 1) × AllByRecursion (λ (w : Write). w.cell ≡ flag0_cell z → ⊥) (s.writes 0)
 waited_landed z s note past dated in_time own = (sym (sees_none (s.writes 0) (flag0_cell z) s.flag0 none) ∙ own, none)
   where
-    go : (ws : List Write) → All (λ (w : Write). w.cell ≡ flag0_cell z → w.date ≤ note) ws → All (λ (w : Write). s.clock ≤ w.date + s.bound) ws → All (λ (w : Write). w.cell ≡ flag0_cell z → ⊥) ws
+    go : (ws : List Write) → AllByRecursion (λ (w : Write). w.cell ≡ flag0_cell z → w.date ≤ note) ws → AllByRecursion (λ (w : Write). s.clock ≤ w.date + s.bound) ws → AllByRecursion (λ (w : Write). w.cell ≡ flag0_cell z → ⊥) ws
     go [] a b = tt
     go (w ∷ ws) a b = (λ e. let h : w.date ≤ note = a.0 e in let k : s.clock ≤ w.date + s.bound = b.0 in omega arith, go ws a.1 b.1)
 
-    none : All (λ (w : Write). w.cell ≡ flag0_cell z → ⊥) (s.writes 0)
+    none : AllByRecursion (λ (w : Write). w.cell ≡ flag0_cell z → ⊥) (s.writes 0)
     none = go (s.writes 0) dated in_time
 
 -- The echo: a thread that finds its version in flag0 has the owner in its loop, so not inside.

@@ -1,6 +1,6 @@
 -- The half of flag0, echoes and time is kept by what the memory does. Assumes nothing.
 use Rattle.std.proofs.Common.{◌≡◌, ℕ, ◌+◌, ◌*◌, ◌<◌, ◌≤◌, Bool, true, false, cond, eqb, ◌⊎◌, ◌∷◌, sym, ◌∙◌, inl, inr, arith}
-use Rattle.std.specs.List.{AllByRecursion as All}
+use Rattle.std.specs.List.{AllByRecursion}
 use Rattle.std.proofs.ByRecursion.{All-weaker}
 use Rattle.std.proofs.lemmas.Bool.{cases_eq, eqb-true, eq-eqb, ne_eqb, cond-true, cond-false, cond_both}
 use Rattle.memory.specs.declared.write.Write.{Write}
@@ -13,7 +13,7 @@ use Rattle.protocol.proofs.OwnedFacts.{flag0_grows, write_grows, at_grows, flag0
 
 -- every waiting write may still wait: a fact of the memory
 abbrev pub Timely : Sight → Type 0
-Timely v = (t : ℕ) → All (λ (w : Write). v.clock ≤ w.date + v.bound) (v.writes t)
+Timely v = (t : ℕ) → AllByRecursion (λ (w : Write). v.clock ≤ w.date + v.bound) (v.writes t)
 
 abbrev pub InTime : LockState → Type 0
 InTime a = Timely a.sight
@@ -80,7 +80,7 @@ lands_owner z a a' l k o =
     here : Bool
     here = eqb w.cell (flag0_cell z)
 
-    first : All (OwnerWrite z a.sight.flag1) (w ∷ l.rest)
+    first : AllByRecursion (OwnerWrite z a.sight.flag1) (w ∷ l.rest)
     first = rw l.was at o.writes
 
     value : OwnerWrite z a.sight.flag1 w → w.cell ≡ flag0_cell z → Flag0 a.sight.flag1 w.value
@@ -99,13 +99,13 @@ lands_owner z a a' l k o =
 
     echoless : (v : ℕ) → NoEcho z (v + 1) a.sight.flag0 (a.sight.writes 0) → NoEcho z (v + 1) (cond here w.value a.sight.flag0) l.rest
     echoless v n =
-        let both : All (λ (x : Write). x.cell ≡ flag0_cell z → x.value ≡ 2 * (v + 1) → ⊥) (w ∷ l.rest) = rw l.was at n.waiting in
+        let both : AllByRecursion (λ (x : Write). x.cell ≡ flag0_cell z → x.value ≡ 2 * (v + 1) → ⊥) (w ∷ l.rest) = rw l.was at n.waiting in
         record {
           landed = cond_both here w.value a.sight.flag0 (λ x. x ≡ 2 * (v + 1) → ⊥) (λ e. both.0 (eqb-true w.cell (flag0_cell z) e)) (λ e. n.landed);
           waiting = both.1;
         }
 
-    found : (a.sight.flag0 ≡ 1) × All (λ (x : Write). x.cell ≡ flag0_cell z → ⊥) (w ∷ l.rest) → (cond here w.value a.sight.flag0 ≡ 1) × All (λ (x : Write). x.cell ≡ flag0_cell z → ⊥) l.rest
+    found : (a.sight.flag0 ≡ 1) × AllByRecursion (λ (x : Write). x.cell ≡ flag0_cell z → ⊥) (w ∷ l.rest) → (cond here w.value a.sight.flag0 ≡ 1) × AllByRecursion (λ (x : Write). x.cell ≡ flag0_cell z → ⊥) l.rest
     found x = (cond-false here w.value a.sight.flag0 (ne_eqb w.cell (flag0_cell z) x.1.0) ∙ x.0, x.1.1)
 
 -- flag1 grows by a move that the owner does not make

@@ -1,6 +1,6 @@
 -- The path of a node through a thread's hazard cells: what landings, new stores and loads do to it. Assumes nothing.
 use Rattle.std.proofs.Common.{◌≡◌, ℕ, ◌+◌, ◌<◌, ◌≤◌, Bool, true, false, cond, eqb, leb, List, [], ◌∷◌, ◌++◌, refl, ◌∙◌, inl, inr, arith}
-use Rattle.std.specs.List.{AllByRecursion as All}
+use Rattle.std.specs.List.{AllByRecursion}
 use Rattle.std.proofs.lemmas.Bool.{cases_eq, le-leb, lt-leb, eq-eqb, ne_eqb}
 use Rattle.protocol.proofs.Paths.{Slot, put, last_of, Path, Early, PathAfter}
 
@@ -107,11 +107,11 @@ after_copy r view [] w i n is up p = path_after r view (w ∷ []) w.index n (pat
 after_copy r view (v ∷ ws) w i n is up p = early_both (leb v.date r) (after_copy r (put view v) ws w i n is up) (path_copy view (v ∷ ws) w 0 i n is up) p
 
 -- every store so far is dated r or before
-pub after_retire : (r : ℕ) (view : ℕ → ℕ) (ws : List Slot) (i n : ℕ) → All (λ (w : Slot). w.date ≤ r) ws → last_of view ws i ≡ n → PathAfter r view ws i n
+pub after_retire : (r : ℕ) (view : ℕ → ℕ) (ws : List Slot) (i n : ℕ) → AllByRecursion (λ (w : Slot). w.date ≤ r) ws → last_of view ws i ≡ n → PathAfter r view ws i n
 after_retire r view [] i n all e = (omega arith, e)
 after_retire r view (w ∷ ws) i n (d, all) e = rw (le-leb w.date r d) (after_retire r (put view w) ws i n all e)
 
 -- no store dated r or before waits any more
-pub after_scan : (r : ℕ) (view : ℕ → ℕ) (ws : List Slot) (i n : ℕ) → All (λ (w : Slot). r < w.date) ws → PathAfter r view ws i n → Path view ws 0 i n
+pub after_scan : (r : ℕ) (view : ℕ → ℕ) (ws : List Slot) (i n : ℕ) → AllByRecursion (λ (w : Slot). r < w.date) ws → PathAfter r view ws i n → Path view ws 0 i n
 after_scan r view [] i n all p = p
 after_scan r view (w ∷ ws) i n (d, all) p = rw (lt-leb w.date r d) at p

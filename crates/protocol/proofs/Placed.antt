@@ -1,6 +1,6 @@
 -- The invariant of the tables for nodes: where each node is, over the tables and the memory alone. Assumes nothing.
 use Rattle.std.proofs.Common.{◌≡◌, ℕ, ◌+◌, ◌<◌, ◌≤◌, true, cond, length, Some}
-use Rattle.std.specs.List.{AllByRecursion as All}
+use Rattle.std.specs.List.{AllByRecursion}
 use Rattle.memory.specs.declared.write.Write.{Write}
 use Rattle.memory.specs.Calls.{Sound}
 use Rattle.memory.specs.Meaning.{Meaning, queue, cell}
@@ -61,15 +61,15 @@ pub record Placed (x : Tables) (m : Meaning) : Type 0 where
   pub shape : Shaped x
   pub sound : Sound m
   -- roots are written by exchanges alone
-  pub writes : (t : ℕ) → All (λ (w : Write). x.settings.roots ≤ w.cell) (queue m t)
+  pub writes : (t : ℕ) → AllByRecursion (λ (w : Write). x.settings.roots ≤ w.cell) (queue m t)
   pub none : node_of x 0 ≡ Free
   pub rooted : (r : ℕ) → r < x.settings.roots → 0 < cell m r → node_of x (cell m r) ≡ Published r
   pub published : (n r : ℕ) → node_of x n ≡ Published r → (r < x.settings.roots) × (cell m r ≡ n)
   pub taking : (t r n : ℕ) → (thread_of x t).point ≡ publish1 r n → node_of x n ≡ Taken t
   pub removing : (t r n : ℕ) → (thread_of x t).point ≡ remove3 r n → node_of x n ≡ Removed t
   pub listed : (n t : ℕ) → 0 < n → names n (thread_of x t).retired ≡ cond (retired_in (node_of x n) t) 1 0
-  pub real : (t : ℕ) → All (λ (e : Retired). 0 < e.node) (thread_of x t).retired
-  pub dates : (t : ℕ) → All (λ (e : Retired). e.date ≤ m.clock) (thread_of x t).retired
+  pub real : (t : ℕ) → AllByRecursion (λ (e : Retired). 0 < e.node) (thread_of x t).retired
+  pub dates : (t : ℕ) → AllByRecursion (λ (e : Retired). e.date ≤ m.clock) (thread_of x t).retired
 
 -- the invariant of a state: nothing is asked of the tables before set-up
 pub record Inv (s : State) : Type 0 where

@@ -1,7 +1,7 @@
 -- The invariant of the tables for nodes, cut into what the roots say of the nodes and what each thread's row does, and how each
 -- part is kept when one row and some nodes change. Assumes nothing.
 use Rattle.std.proofs.Common.{◌≡◌, ℕ, ◌+◌, ◌<◌, ◌≤◌, true, cond, ◌≢◌, ◌⊎◌, List, length, get_or, set, refl, ◌∙◌, inl, inr}
-use Rattle.std.specs.List.{AllByRecursion as All}
+use Rattle.std.specs.List.{AllByRecursion}
 use Rattle.std.proofs.lemmas.List.{length-set, get_or-set_same, get_or-set_other}
 use Rattle.std.proofs.lemmas.Bool.{cases_eq}
 use Rattle.memory.specs.Calls.{Sound}
@@ -30,8 +30,8 @@ pub record Row (z : Settings) (ns : List NodeState) (clock u : ℕ) (row : Threa
   pub taking : (r n : ℕ) → row.point ≡ publish1 r n → get_or ns n Free ≡ Taken u
   pub removing : (r n : ℕ) → row.point ≡ remove3 r n → get_or ns n Free ≡ Removed u
   pub listed : (n : ℕ) → 0 < n → names n row.retired ≡ cond (retired_in (get_or ns n Free) u) 1 0
-  pub real : All (λ (e : Retired). 0 < e.node) row.retired
-  pub dates : All (λ (e : Retired). e.date ≤ clock) row.retired
+  pub real : AllByRecursion (λ (e : Retired). 0 < e.node) row.retired
+  pub dates : AllByRecursion (λ (e : Retired). e.date ≤ clock) row.retired
 
 pub roots_of : {x : Tables} {m : Meaning} → Placed x m → Rooted x.settings.roots x.nodes m
 roots_of p = record { none = p.none; rooted = p.rooted; published = p.published }
@@ -53,7 +53,7 @@ pub record Frame (x : Tables) (m : Meaning) : Type 0 where
   pub threads : length x.threads ≡ x.settings.threads
   pub nodes : length x.nodes ≡ x.settings.nodes + 1
   pub sound : Sound m
-  pub writes : (t : ℕ) → All (OffRoots x.settings.roots) (queue m t)
+  pub writes : (t : ℕ) → AllByRecursion (OffRoots x.settings.roots) (queue m t)
 
 pub from_parts : (x : Tables) (m : Meaning) → Frame x m → Rooted x.settings.roots x.nodes m → ((u : ℕ) → Row x.settings x.nodes m.clock u (thread_of x u)) → Placed x m
 from_parts x m f q rows =

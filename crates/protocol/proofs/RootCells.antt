@@ -1,6 +1,6 @@
 -- The cells below a number, such as the roots: what the memory does elsewhere leaves them. Assumes nothing.
 use Rattle.std.proofs.Common.{◌≡◌, ℕ, ◌<◌, ◌≤◌, Bool, true, false, eqb, ◌≢◌, ◌⊎◌, length, refl, ◌∙◌, inl, inr, arith}
-use Rattle.std.specs.List.{AllByRecursion as All}
+use Rattle.std.specs.List.{AllByRecursion}
 use Rattle.std.proofs.ByRecursion.{All-push}
 use Rattle.std.proofs.lemmas.Bool.{cases_eq}
 use Rattle.memory.specs.declared.write.Write.{Write}
@@ -14,7 +14,7 @@ OffRoots roots w = roots ≤ w.cell
 -- The cells below n are those that m had, and no write waits for them.
 pub record Below (n : ℕ) (m m' : Meaning) : Type 0 where
   pub cells : (r : ℕ) → r < n → cell m' r ≡ cell m r
-  pub writes : (t : ℕ) → All (OffRoots n) (queue m' t)
+  pub writes : (t : ℕ) → AllByRecursion (OffRoots n) (queue m' t)
 
 pub below_landed : (n : ℕ) (m : Meaning) (t : ℕ) (l : Meaning) → Below n m l → Below n m (landed t l)
 below_landed n m t l b = elim (landed_cases t l) [ inl e ↦ rw e b | inr p ↦ popped p ]
@@ -24,7 +24,7 @@ below_landed n m t l b = elim (landed_cases t l) [ inl e ↦ rw e b | inr p ↦ 
         let all = rw p.was at (b.writes t) in
         record { cells = λ r lt. p.elsewhere r (λ e. let k = all.0 in omega arith) ∙ b.cells r lt; writes = λ u. at u (cases_eq u t) }
       where
-        at : (u : ℕ) → (u ≡ t) ⊎ (u ≢ t) → All (OffRoots n) (queue (landed t l) u)
+        at : (u : ℕ) → (u ≡ t) ⊎ (u ≢ t) → AllByRecursion (OffRoots n) (queue (landed t l) u)
         at u (inl e) = rw (e, p.left) (rw p.was at (b.writes t)).1
         at u (inr ne) = rw (p.others u ne) (b.writes u)
 
@@ -37,7 +37,7 @@ below_stored n m t c v l lt le b = go (stored_pushes t c v l lt)
     go : Pushed t c v l (stored t c v l) → Below n m (stored t c v l)
     go p = record { cells = λ r h. rw p.cells (b.cells r h); writes = λ u. at u (cases_eq u t) }
       where
-        at : (u : ℕ) → (u ≡ t) ⊎ (u ≢ t) → All (OffRoots n) (queue (stored t c v l) u)
+        at : (u : ℕ) → (u ≡ t) ⊎ (u ≢ t) → AllByRecursion (OffRoots n) (queue (stored t c v l) u)
         at u (inl e) = rw (e, p.here) (All-push (OffRoots n) (queue l t) (written l c v) (b.writes t) le)
         at u (inr ne) = rw (p.others u ne) (b.writes u)
 

@@ -1,6 +1,6 @@
 -- No number grows past 64 + 2 × the accepted calls: in the cells, in the waiting writes, and in what threads keep. Assumes nothing.
 use Rattle.std.proofs.Common.{◌≡◌, ℕ, ◌+◌, ◌*◌, ◌<◌, ◌≤◌, Bool, true, false, cond, eqb, ltb, ◌≢◌, ◌⊎◌, List, [], ◌∷◌, ◌++◌, length, get_or, set, Some, None, Option, sym, refl, inl, inr, arith}
-use Rattle.std.specs.List.{AllByRecursion as All}
+use Rattle.std.specs.List.{AllByRecursion}
 use Rattle.std.proofs.ByRecursion.{All-push, All-weaker}
 use Rattle.std.proofs.lemmas.List.{get_or_past, get_or-set_same, get_or-set_other}
 use Rattle.std.proofs.lemmas.Bool.{cases_eq, cases_lt, cond_both}
@@ -26,7 +26,7 @@ use Rattle.protocol.proofs.PlacedMemory.{Ranges, ranges}
 
 pub record SmallMemory (b : ℕ) (m : Meaning) : Type 0 where
   pub cells : (c : ℕ) → cell m c ≤ b
-  pub waiting : (t : ℕ) → All (λ (w : Write). w.value ≤ b) (queue m t)
+  pub waiting : (t : ℕ) → AllByRecursion (λ (w : Write). w.value ≤ b) (queue m t)
 
 memory_more : (b b' : ℕ) (m : Meaning) → b ≤ b' → SmallMemory b m → SmallMemory b' m
 memory_more b b' m le s =
@@ -45,7 +45,7 @@ memory_landed b t m s = elim (landed_cases t m) [ inl e ↦ rw e s | inr p ↦ p
     popped : Popped t m (landed t m) → SmallMemory b (landed t m)
     popped p = record { cells = λ c. at c (cases_eq c p.write.cell); waiting = λ u. left u (cases_eq u t) }
       where
-        all : All (λ (w : Write). w.value ≤ b) (p.write ∷ p.rest)
+        all : AllByRecursion (λ (w : Write). w.value ≤ b) (p.write ∷ p.rest)
         all = rw p.was at (s.waiting t)
 
         at : (c : ℕ) → (c ≡ p.write.cell) ⊎ (c ≢ p.write.cell) → cell (landed t m) c ≤ b
@@ -55,7 +55,7 @@ memory_landed b t m s = elim (landed_cases t m) [ inl e ↦ rw e s | inr p ↦ p
         ]
         at c (inr ne) = rw (p.elsewhere c ne) (s.cells c)
 
-        left : (u : ℕ) → (u ≡ t) ⊎ (u ≢ t) → All (λ (w : Write). w.value ≤ b) (queue (landed t m) u)
+        left : (u : ℕ) → (u ≡ t) ⊎ (u ≢ t) → AllByRecursion (λ (w : Write). w.value ≤ b) (queue (landed t m) u)
         left u (inl e) = rw (e, p.left) all.1
         left u (inr ne) = rw (p.others u ne) (s.waiting u)
 
@@ -68,7 +68,7 @@ memory_stored b t c v m lt le s = go (stored_pushes t c v m lt)
     go : Pushed t c v m (stored t c v m) → SmallMemory b (stored t c v m)
     go p = record { cells = λ d. rw p.cells (s.cells d); waiting = λ u. at u (cases_eq u t) }
       where
-        at : (u : ℕ) → (u ≡ t) ⊎ (u ≢ t) → All (λ (w : Write). w.value ≤ b) (queue (stored t c v m) u)
+        at : (u : ℕ) → (u ≡ t) ⊎ (u ≢ t) → AllByRecursion (λ (w : Write). w.value ≤ b) (queue (stored t c v m) u)
         at u (inl e) = rw (e, p.here) (All-push (λ (w : Write). w.value ≤ b) (queue m t) (written m c v) (s.waiting t) le)
         at u (inr ne) = rw (p.others u ne) (s.waiting u)
 
@@ -95,7 +95,7 @@ memory_ticked b m s = go (ticked_moves m)
     go : Moved m (ticked m) → SmallMemory b (ticked m)
     go p = record { cells = λ c. rw p.cells (s.cells c); waiting = λ u. rw p.waiting (s.waiting u) }
 
-newest_small : (b : ℕ) (o : Option ℕ) (ws : List Write) (c d : ℕ) → value_or o d ≤ b → All (λ (w : Write). w.value ≤ b) ws → value_or (newest_or o ws c) d ≤ b
+newest_small : (b : ℕ) (o : Option ℕ) (ws : List Write) (c d : ℕ) → value_or o d ≤ b → AllByRecursion (λ (w : Write). w.value ≤ b) ws → value_or (newest_or o ws c) d ≤ b
 newest_small b o [] c d le all = le
 newest_small b o (w ∷ ws) c d le all = newest_small b (cond (eqb w.cell c) (Some w.value) o) ws c d (at (eqb w.cell c)) all.1
   where

@@ -1,7 +1,7 @@
 -- How the half of the lock's invariant on L and flag1 is carried from one state to the next, when thread t does something. Assumes
 -- nothing.
 use Rattle.std.proofs.Common.{◌≡◌, ℕ, ◌+◌, ◌*◌, ◌≤◌, Bool, false, eqb, ◌≢◌, ◌⊎◌, List, [], ◌∷◌, ◌++◌, sym, refl, ap, ◌∙◌, subst, inl, inr, arith}
-use Rattle.std.specs.List.{AllByRecursion as All}
+use Rattle.std.specs.List.{AllByRecursion}
 use Rattle.std.proofs.ByRecursion.{All-weaker, All-push}
 use Rattle.std.proofs.lemmas.Bool.{cases_eq}
 use Rattle.memory.specs.declared.write.Write.{Write}
@@ -28,7 +28,7 @@ calm_stores t c n s = record { lock = s.lock; flag0 = s.flag0; flag1 = s.flag1; 
 
 -- small numbers wait
 abbrev pub Small : ℕ → List Write → Type 0
-Small n ws = All (λ (w : Write). w.value ≤ 2 * n + 1) ws
+Small n ws = AllByRecursion (λ (w : Write). w.value ≤ 2 * n + 1) ws
 
 pub small_more : {m n : ℕ} (ws : List Write) → m ≤ n → Small m ws → Small n ws
 small_more {m} {n} ws le h = All-weaker (λ (w : Write). w.value ≤ 2 * m + 1) (λ (w : Write). w.value ≤ 2 * n + 1) (λ w k. omega arith) ws h

@@ -1,6 +1,6 @@
 -- The half of the lock's invariant on L and flag1 is kept while only the memory moves. Assumes nothing.
 use Rattle.std.proofs.Common.{◌≡◌, ℕ, ◌+◌, ◌*◌, ◌≤◌, false, ◌≢◌, ◌⊎◌, List, [], ◌∷◌, sym, refl, ap, ◌∙◌, subst, inl, inr, arith}
-use Rattle.std.specs.List.{AllByRecursion as All}
+use Rattle.std.specs.List.{AllByRecursion}
 use Rattle.std.proofs.lemmas.Bool.{cases_eq}
 use Rattle.memory.specs.declared.write.Write.{Write}
 use Rattle.protocol.specs.declared.settings.Settings.{Settings}
@@ -182,5 +182,5 @@ turns_lands z t a a' l still h o = go (cases_eq t 0)
     by_owner e (releases c v) = lands_release t l still h e c v
 
     go : (t ≡ 0) ⊎ (t ≢ 0) → Turns z a'
-    go (inl e) = by_owner e (rw l.was at (subst (λ n. All (OwnerWrite z a.sight.flag1) (a.sight.writes n)) (sym e) o.writes)).0
+    go (inl e) = by_owner e (rw l.was at (subst (λ n. AllByRecursion (OwnerWrite z a.sight.flag1) (a.sight.writes n)) (sym e) o.writes)).0
     go (inr ne) = let pos : 1 ≤ t = omega arith in lands_other t l still h pos (h.others t pos)

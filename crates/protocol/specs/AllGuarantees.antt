@@ -1,7 +1,7 @@
 -- What is promised of every history beyond the guarantees: the number of accepted calls, whose a taken or removed node is, and that
 -- numbers fit. Assumes nothing.
 use Rattle.std.specs.Prelude.{◌≡◌, ℕ, ◌+◌, ◌*◌, ◌<◌, ◌≤◌, true, List, Some, None, Option}
-use Rattle.std.specs.List.{AllByRecursion as All}
+use Rattle.std.specs.List.{AllByRecursion}
 use Rattle.protocol.specs.declared.node.NodeState.TheVariants.{Taken, Removed}
 use Rattle.protocol.specs.declared.operation.Operation.TheVariants.{Publish}
 use Rattle.protocol.specs.Codes.{code_of, value_of}
@@ -41,7 +41,7 @@ pub record NumbersFit (e : Event) : Type 0 where
 
 -- every event fits, and at most 8000 calls are accepted
 abbrev pub EveryNumberFits : Type 0
-EveryNumberFits = (h : List Event) (s : State) → Explains h s → All NumbersFit h × (accepted_in h ≤ 8000)
+EveryNumberFits = (h : List Event) (s : State) → Explains h s → AllByRecursion NumbersFit h × (accepted_in h ≤ 8000)
 
 -- A step that stores a flag of the lock stores its whole value: none is cut off at the size of a word.
 pub record FlagsWhole (p : Point) : Type 0 where
@@ -52,13 +52,13 @@ pub record FlagsWhole (p : Point) : Type 0 where
 abbrev pub FlagsAreWhole : Type 0
 FlagsAreWhole = (h : List Event) (s : State) (x : Tables) → Explains h s → s.tables ≡ Some x → (t : ℕ) → FlagsWhole (thread_of x t).point
 
--- All that is promised of a history over a memory with bound b, for nodes, lock, lists and numbers.
+-- AllByRecursion that is promised of a history over a memory with bound b, for nodes, lock, lists and numbers.
 pub record AllGuarantees (b : ℕ) (h : List Event) : Type 0 where
   pub guarantees : Guarantees b h
   -- a taken or removed node is its thread's
   pub threads : (n : ℕ) → 0 < n → HasItsThread b h n
   -- every number fits, and at most 8000 calls are accepted
-  pub fits : All NumbersFit h
+  pub fits : AllByRecursion NumbersFit h
   pub few : accepted_in h ≤ 8000
 
 abbrev pub AllTheGuarantees : Type 0

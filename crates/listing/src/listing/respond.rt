@@ -34,7 +34,7 @@ fn shown(answer: Answer) -> Line
 
 // A later line: the machine is called, unless the line is malformed.
 fn respond<M: Memory>(machine: &mut Machine<M>, line: &[u8]) -> Line
-    ensures { Responds (call_in line.now) (state meaning machine.old) (state meaning machine.new) (bytes_of result) }
+    ensures { Responds (call_in line.now) (state M.meaning machine.old) (state M.meaning machine.new) (bytes_of result) }
 {
     match parse_call(line) {
         Some(call) => shown(machine.call(call)),

@@ -35,7 +35,7 @@ fn answer(res: Result<Answer, Refusal>) -> Answer
 impl<M: Memory> Machine<M> {
     // A machine over the memory, which is not set up.
     pub fn new(memory: M) -> Machine<M>
-        ensures { state meaning result ≡ begun_new (meaning memory) }
+        ensures { state M.meaning result ≡ begun_new (M.meaning memory) }
     {
         let Some(layout) = Layout::new(SMALLEST) else {
             unreachable()
@@ -50,7 +50,7 @@ impl<M: Memory> Machine<M> {
     // Sets the machine up. Refused, in this order, where it is set up already, where a setting is out of range, and where the
     // memory is not new.
     pub fn set_up(&mut self, settings: Settings) -> Answer
-        ensures { Performs (state meaning self.old) (state meaning self.new) (SetUp settings) result }
+        ensures { Performs (state M.meaning self.old) (state M.meaning self.new) (SetUp settings) result }
     {
         if self.is_set_up {
             return Answer::Refused(Refusal::AlreadySetUp);
@@ -68,7 +68,7 @@ impl<M: Memory> Machine<M> {
 
     // Adds one to the clock.
     pub fn tick(&mut self) -> Answer
-        ensures { Performs (state meaning self.old) (state meaning self.new) Tick result }
+        ensures { Performs (state M.meaning self.old) (state M.meaning self.new) Tick result }
     {
         if !self.is_set_up {
             return Answer::Refused(Refusal::NotSetUp);
@@ -78,7 +78,7 @@ impl<M: Memory> Machine<M> {
 
     // Lands the thread's oldest waiting write.
     pub fn land(&mut self, thread: usize) -> Answer
-        ensures { Performs (state meaning self.old) (state meaning self.new) (Land thread) result }
+        ensures { Performs (state M.meaning self.old) (state M.meaning self.new) (Land thread) result }
     {
         if !self.is_set_up {
             return Answer::Refused(Refusal::NotSetUp);
@@ -88,7 +88,7 @@ impl<M: Memory> Machine<M> {
 
     // Gives an idle thread the operation of this number, with two arguments.
     pub fn begin(&mut self, thread: usize, operation: usize, a: usize, b: usize) -> Answer
-        ensures { Performs (state meaning self.old) (state meaning self.new) (Begin thread operation a b) result }
+        ensures { Performs (state M.meaning self.old) (state M.meaning self.new) (Begin thread operation a b) result }
     {
         if !self.is_set_up {
             return Answer::Refused(Refusal::NotSetUp);
@@ -98,7 +98,7 @@ impl<M: Memory> Machine<M> {
 
     // Does the next step of the thread's operation.
     pub fn step(&mut self, thread: usize) -> Answer
-        ensures { Performs (state meaning self.old) (state meaning self.new) (Step thread) result }
+        ensures { Performs (state M.meaning self.old) (state M.meaning self.new) (Step thread) result }
     {
         if !self.is_set_up {
             return Answer::Refused(Refusal::NotSetUp);

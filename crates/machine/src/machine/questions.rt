@@ -19,9 +19,9 @@ use protocol::settings::Settings;
 impl<M: Memory> Machine<M> {
     // The thread and the index of a hazard cell. None for another cell.
     pub fn hazard_cell(&self, cell: usize) -> Option<(usize, usize)>
-        ensures tables { result ≡ hazard_of (settings_shown (state meaning self.now).tables) cell }
-        ensures history { (h : List Event) → Explains h (state meaning self.now) → result ≡ hazard_of (settings_in h) cell }
-        ensures law { HazardLaw (settings_shown (state meaning self.now).tables) cell result }
+        ensures tables { result ≡ hazard_of (settings_shown (state M.meaning self.now).tables) cell }
+        ensures history { (h : List Event) → Explains h (state M.meaning self.now) → result ≡ hazard_of (settings_in h) cell }
+        ensures law { HazardLaw (settings_shown (state M.meaning self.now).tables) cell result }
     {
         if !self.is_set_up {
             return None;
@@ -31,8 +31,8 @@ impl<M: Memory> Machine<M> {
 
     // The node on which the guard at the thread's hazard index stands, 0 where none stands. None where there is no such index.
     pub fn guard(&self, thread: usize, index: usize) -> Option<u64>
-        ensures tables { result ≡ guard_shown (state meaning self.now).tables thread index }
-        ensures history { (h : List Event) → Explains h (state meaning self.now) → result ≡ guard_asked h thread index }
+        ensures tables { result ≡ guard_shown (state M.meaning self.now).tables thread index }
+        ensures history { (h : List Event) → Explains h (state M.meaning self.now) → result ≡ guard_asked h thread index }
     {
         if !self.is_set_up {
             return None;
@@ -42,8 +42,8 @@ impl<M: Memory> Machine<M> {
 
     // Where the node is. None where there is no such node.
     pub fn node(&self, node: usize) -> Option<NodeState>
-        ensures tables { result ≡ node_shown (state meaning self.now).tables node }
-        ensures history { (h : List Event) → Explains h (state meaning self.now) → result ≡ node_asked (state meaning self.now).memory.bound h node }
+        ensures tables { result ≡ node_shown (state M.meaning self.now).tables node }
+        ensures history { (h : List Event) → Explains h (state M.meaning self.now) → result ≡ node_asked (state M.meaning self.now).memory.bound h node }
     {
         if !self.is_set_up {
             return None;
@@ -53,8 +53,8 @@ impl<M: Memory> Machine<M> {
 
     // The thread's retired nodes with their dates, oldest first. None where there is no such thread.
     pub fn retired(&self, thread: usize) -> Option<&[Retired]>
-        ensures tables { option_map (λ x. x.now) result ≡ retired_shown (state meaning self.now).tables thread }
-        ensures history { (h : List Event) → Explains h (state meaning self.now) → option_map (λ x. x.now) result ≡ retired_asked (state meaning self.now).memory.bound h thread }
+        ensures tables { option_map (λ x. x.now) result ≡ retired_shown (state M.meaning self.now).tables thread }
+        ensures history { (h : List Event) → Explains h (state M.meaning self.now) → option_map (λ x. x.now) result ≡ retired_asked (state M.meaning self.now).memory.bound h thread }
     {
         if !self.is_set_up {
             return None;
@@ -64,8 +64,8 @@ impl<M: Memory> Machine<M> {
 
     // Whether the thread is inside the lock. None where there is no such thread.
     pub fn is_inside(&self, thread: usize) -> Option<bool>
-        ensures tables { result ≡ is_inside_shown (state meaning self.now).tables thread }
-        ensures history { (h : List Event) → Explains h (state meaning self.now) → result ≡ is_inside_asked h thread }
+        ensures tables { result ≡ is_inside_shown (state M.meaning self.now).tables thread }
+        ensures history { (h : List Event) → Explains h (state M.meaning self.now) → result ≡ is_inside_asked h thread }
     {
         if !self.is_set_up {
             return None;
@@ -75,9 +75,9 @@ impl<M: Memory> Machine<M> {
 
     // The thread that is inside the lock. None where no thread is.
     pub fn inside(&self) -> Option<usize>
-        ensures tables { result ≡ inside_shown (state meaning self.now).tables }
-        ensures history { (h : List Event) → Explains h (state meaning self.now) → result ≡ inside_asked h }
-        ensures law { (h : List Event) → Explains h (state meaning self.now) → NamesInside h result }
+        ensures tables { result ≡ inside_shown (state M.meaning self.now).tables }
+        ensures history { (h : List Event) → Explains h (state M.meaning self.now) → result ≡ inside_asked h }
+        ensures law { (h : List Event) → Explains h (state M.meaning self.now) → NamesInside h result }
     {
         if !self.is_set_up {
             return None;
@@ -87,8 +87,8 @@ impl<M: Memory> Machine<M> {
 
     // The thread's operation with its next step, or nothing. None where there is no such thread.
     pub fn doing(&self, thread: usize) -> Option<Doing>
-        ensures tables { option_map doing_of result ≡ doing_shown (state meaning self.now).tables thread }
-        ensures history { (h : List Event) → Explains h (state meaning self.now) → option_map doing_of result ≡ doing_asked h thread }
+        ensures tables { option_map doing_of result ≡ doing_shown (state M.meaning self.now).tables thread }
+        ensures history { (h : List Event) → Explains h (state M.meaning self.now) → option_map doing_of result ≡ doing_asked h thread }
     {
         if !self.is_set_up {
             return None;
@@ -98,8 +98,8 @@ impl<M: Memory> Machine<M> {
 
     // The settings of the set-up.
     pub fn settings(&self) -> Option<Settings>
-        ensures tables { result ≡ settings_shown (state meaning self.now).tables }
-        ensures history { (h : List Event) → Explains h (state meaning self.now) → result ≡ settings_in h }
+        ensures tables { result ≡ settings_shown (state M.meaning self.now).tables }
+        ensures history { (h : List Event) → Explains h (state M.meaning self.now) → result ≡ settings_in h }
     {
         if !self.is_set_up {
             return None;
@@ -109,8 +109,8 @@ impl<M: Memory> Machine<M> {
 
     // How many calls were accepted so far, set-up not counted.
     pub fn accepted(&self) -> Option<u32>
-        ensures tables { result ≡ accepted_shown (state meaning self.now).tables }
-        ensures history { (h : List Event) → Explains h (state meaning self.now) → result ≡ accepted_asked h }
+        ensures tables { result ≡ accepted_shown (state M.meaning self.now).tables }
+        ensures history { (h : List Event) → Explains h (state M.meaning self.now) → result ≡ accepted_asked h }
     {
         if !self.is_set_up {
             return None;

@@ -13,7 +13,7 @@ use std::alloc::Global;
 impl<M: Memory> Machine<M> {
     // Makes one call.
     pub fn call(&mut self, call: Call) -> Answer
-        ensures { Performs (state meaning self.old) (state meaning self.new) call result }
+        ensures { Performs (state M.meaning self.old) (state M.meaning self.new) call result }
     {
         match call {
             Call::SetUp(settings) => self.set_up(settings),
@@ -45,7 +45,7 @@ pub struct NoRoom<M> {
 
 // Begins a machine new over the memory and makes the calls in their order, set-up among them.
 pub fn run<M: Memory>(heap: Global, memory: M, calls: &[Call]) -> Result<Completed<M>, NoRoom<M>>
-    ensures { RunAs meaning memory calls.now result }
+    ensures { RunAs M.meaning memory calls.now result }
 {
     let Ok(mut answers) = Vec::with_capacity(heap, calls.len()) else {
         return Err(NoRoom { memory });

@@ -11,7 +11,7 @@ use protocol::answer::{Answer, Refusal};
 
 impl Tables {
     pub fn land<M: Memory>(&mut self, memory: &mut M, thread: usize) -> Result<Answer, Refusal>
-        ensures { Performs (running self.old (meaning memory.old)) (running self.new (meaning memory.new)) (Land thread) (answer_of result) }
+        ensures { Performs (running self.old (M.meaning memory.old)) (running self.new (M.meaning memory.new)) (Land thread) (answer_of result) }
     {
         if self.accepted >= 8000 {
             return Err(Refusal::CallsUsedUp);

@@ -16,7 +16,7 @@ use protocol::told::Told;
 // Asks the memory for what a step wants. The cell is one of the machine's, so that only waiting writes can be in the way.
 fn ask<M: Memory>(memory: &mut M, thread: usize, request: Request) -> Result<Told, Refusal>
     requires { (thread < 8) × (InCells (request_of request)) }
-    ensures { Asked thread request (meaning memory.old) (meaning memory.new) result }
+    ensures { Asked thread request (M.meaning memory.old) (M.meaning memory.new) result }
 {
     match request {
         Request::Load { cell } => match memory.load(thread, cell) {
@@ -44,7 +44,7 @@ fn ask<M: Memory>(memory: &mut M, thread: usize, request: Request) -> Result<Tol
 
 impl Tables {
     pub fn step<M: Memory>(&mut self, memory: &mut M, thread: usize) -> Result<Answer, Refusal>
-        ensures { Performs (running self.old (meaning memory.old)) (running self.new (meaning memory.new)) (Step thread) (answer_of result) }
+        ensures { Performs (running self.old (M.meaning memory.old)) (running self.new (M.meaning memory.new)) (Step thread) (answer_of result) }
     {
         if self.accepted >= 8000 {
             return Err(Refusal::CallsUsedUp);

@@ -14,8 +14,8 @@ loop-rest-init c =
       rw (drop-set-lt end out (end - 1) (48 + n % 10) (omega arith)) (digit_written n end out _ (omega arith) c.requires.1 (decimal_last n)),
     )
 
-pub overflow-sub-at-in-loop-rest : goal.overflow-sub-at-in-loop-rest
-overflow-sub-at-in-loop-rest c = omega (arith, length-digits_of_step 10 c.loop-rest.rest (omega arith) (omega arith))
+pub overflow_sub-at-in-loop-rest : goal.overflow_sub-at-in-loop-rest
+overflow_sub-at-in-loop-rest c = omega (arith, length-digits_of_step 10 c.loop-rest.rest (omega arith) (omega arith))
 
 pub loop-rest-preserved : goal.loop-rest-preserved
 loop-rest-preserved c =

@@ -17,5 +17,5 @@ pub returns : goal.returns
 returns g c =
     let x = c.args.self.now in
     let z = x.tables.layout.settings in
-    let p = since_set_up x.is_set_up x.tables (λ y. hazard_of (settings_shown y) c.args.cell) c.hazard-cell.result c.if-not-self.false c.hazard-cell.ensures in
-    record { tables = p; history = λ h e. p ∙ hazard_asked h (state g.M.Memory.meaning x) e c.args.cell; law = rw (c.if-not-self.false, c.hazard-cell.ensures) (names_hazard z c.args.cell (some_hazards z x.tables.layout.lawful)) }
+    let p = since_set_up x.is_set_up x.tables (λ y. hazard_of (settings_shown y) c.args.cell) c.hazard_cell.result c.if-not-self.false c.hazard_cell.ensures in
+    record { tables = p; history = λ h e. p ∙ hazard_asked h (state g.M.Memory.meaning x) e c.args.cell; law = rw (c.if-not-self.false, c.hazard_cell.ensures) (names_hazard z c.args.cell (some_hazards z x.tables.layout.lawful)) }

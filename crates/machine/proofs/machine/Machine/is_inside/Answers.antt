@@ -14,5 +14,5 @@ returns-then-not-self g c =
 pub returns : goal.returns
 returns g c =
     let x = c.args.self.now in
-    let p = since_set_up x.is_set_up x.tables (λ y. is_inside_shown y c.args.thread) c.is-inside.result c.if-not-self.false c.is-inside.ensures in
+    let p = since_set_up x.is_set_up x.tables (λ y. is_inside_shown y c.args.thread) c.is_inside.result c.if-not-self.false c.is_inside.ensures in
     record { tables = p; history = λ h e. p ∙ is_inside_asked_lem h (state g.M.Memory.meaning x) e c.args.thread }

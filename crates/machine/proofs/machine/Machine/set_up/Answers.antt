@@ -10,11 +10,11 @@ returns-then-self g c =
     let m = g.M.Memory.meaning x.memory in
     set_up_again x.is_set_up x.tables x.tables m m c.args.settings c.if-self.true
 
-pub returns-in-default : goal.returns-in-default
-returns-in-default g c =
+pub returns-in_default : goal.returns-in_default
+returns-in_default g c =
     let x = c.args.self.now in
     let m = g.M.Memory.meaning x.memory in
-    set_up_range x.is_set_up x.tables x.tables m m c.args.settings c.if-self.false (range_no (in_range c.args.settings) c.args.settings c.in-default.ensures)
+    set_up_range x.is_set_up x.tables x.tables m m c.args.settings c.if-self.false (range_no (in_range c.args.settings) c.args.settings c.in_default.ensures)
 
 pub returns-then-not-is-new : goal.returns-then-not-is-new
 returns-then-not-is-new g c =

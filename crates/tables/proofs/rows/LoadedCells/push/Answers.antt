@@ -7,8 +7,8 @@ use Rattle.tables.proofs.rows.LoadedCells.push.Goals as goal
 pub bounds-self-self : goal.bounds-self-self
 bounds-self-self c = omega (arith, loaded_length c.args.self.now)
 
-pub invariant-of-self : goal.invariant-of-self
-invariant-of-self c = (length-set c.args.self.now.values c.args.self.now.len c.args.value ∙ c.args.self.now.places, (omega (arith, loaded_length c.args.self.now), tt))
+pub invariant_of-self : goal.invariant_of-self
+invariant_of-self c = record { places = length-set c.args.self.now.values c.args.self.now.len c.args.value ∙ c.args.self.now.places; within = omega (arith, loaded_length c.args.self.now) }
 
 pub returns : goal.returns
 unfolding loaded_of

@@ -9,8 +9,8 @@ unfolding list_of
 returns-in-Some c = c.in-Some.ensures.row
 
 -- there is a place
-pub returns-in-default : goal.returns-in-default
-returns-in-default c =
+pub returns-in_default : goal.returns-in_default
+returns-in_default c =
     let l = c.args.self.now in
     let room = lt-ltb l.len (length l.entries) (omega (arith, list_length l)) in
-    absurd (c.in-default.not-Some (l.len + 1) (c.append.ensures.answer ∙ ap (λ (b : Bool). cond b (Some (l.len + 1)) None) room))
+    absurd (c.in_default.not-Some (l.len + 1) (c.append.ensures.answer ∙ ap (λ (b : Bool). cond b (Some (l.len + 1)) None) room))

@@ -11,15 +11,15 @@ parts : (s : Sweep) (l : RetireList)
     → length (kept s.bound s.clock (loaded_of s.loaded) (list_of l)) + length (freed s.bound s.clock (loaded_of s.loaded) (list_of l)) ≡ l.len
 parts s l = length-kept_parts (keeps s.bound s.clock (loaded_of s.loaded)) (list_of l) ∙ list_length l
 
-pub invariant-of-self : goal.invariant-of-self
+pub invariant_of-self : goal.invariant_of-self
 unfolding list_of
-invariant-of-self c =
+invariant_of-self c =
     let p = parts c.args.sweep.now c.args.self.now in
-    (omega (arith, c.keep-self.auto.entries), (omega (arith, p, c.keep-self.ensures.answer), tt))
+    record { places = omega (arith, c.keep-self.auto.entries); within = omega (arith, p, c.keep-self.ensures.answer) }
 
-pub overflow-sub-result : goal.overflow-sub-result
+pub overflow_sub-result : goal.overflow_sub-result
 unfolding list_of
-overflow-sub-result c = omega (arith, parts c.args.sweep.now c.args.self.now, c.keep-self.ensures.answer)
+overflow_sub-result c = omega (arith, parts c.args.sweep.now c.args.self.now, c.keep-self.ensures.answer)
 
 pub returns : goal.returns
 unfolding list_of

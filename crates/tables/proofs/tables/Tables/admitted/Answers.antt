@@ -13,38 +13,38 @@ pub returns-then-thread-self : goal.returns-then-thread-self
 returns-then-thread-self c m =
     (begin_no_thread (tables_of c.args.self.now) m c.args.thread c.args.number c.args.a c.args.b c.if-self-ge8000.false c.if-thread-self.true)
 
-pub returns-then-not-is-idle : goal.returns-then-not-is-idle
-returns-then-not-is-idle c m =
-    (busy_refused c.args.self.now m c.args.thread c.args.number c.args.a c.args.b c.index-self-thread.result c.if-self-ge8000.false (omega arith) (sym c.if-not-is-idle.ensures))
+pub returns-then-not-is_idle : goal.returns-then-not-is_idle
+returns-then-not-is_idle c m =
+    (busy_refused c.args.self.now m c.args.thread c.args.number c.args.a c.args.b c.index-self-thread.result c.if-self-ge8000.false (omega arith) (sym c.if-not-is_idle.ensures))
 
-pub returns-in-default : goal.returns-in-default
-returns-in-default c m =
+pub returns-in_default : goal.returns-in_default
+returns-in_default c m =
     (unnamed_refused c.args.self.now m c.args.thread c.args.number c.args.a c.args.b c.index-self-thread.result c.if-self-ge8000.false (omega arith)
-    (sym c.if-not-is-idle.ensures) (sym c.in-default.ensures))
+    (sym c.if-not-is_idle.ensures) (sym c.in_default.ensures))
 
 pub returns-then-not-fits : goal.returns-then-not-fits
 returns-then-not-fits c m =
     (unfit_refused c.args.self.now m c.args.thread c.args.number c.args.a c.args.b c.index-self-thread.result c.if-self-ge8000.false (omega arith)
-    (sym c.if-not-is-idle.ensures) c.in-Some.operation (sym c.in-Some.ensures) (sym c.if-not-fits.ensures))
+    (sym c.if-not-is_idle.ensures) c.in-Some.operation (sym c.in-Some.ensures) (sym c.if-not-fits.ensures))
 
 pub returns-then-not-ready : goal.returns-then-not-ready
 returns-then-not-ready c m =
     (unready_refused c.args.self.now m c.args.thread c.args.number c.args.a c.args.b c.index-self-thread.result c.if-self-ge8000.false (omega arith)
-    (sym c.if-not-is-idle.ensures) c.in-Some.operation (sym c.in-Some.ensures) (sym c.if-not-fits.ensures) (sym c.if-not-ready.ensures))
+    (sym c.if-not-is_idle.ensures) c.in-Some.operation (sym c.in-Some.ensures) (sym c.if-not-fits.ensures) (sym c.if-not-ready.ensures))
 
 pub returns-then-not-roomy : goal.returns-then-not-roomy
 returns-then-not-roomy c m =
     (full_refused c.args.self.now m c.args.thread c.args.number c.args.a c.args.b c.index-self-thread.result c.if-self-ge8000.false (omega arith)
-    (sym c.if-not-is-idle.ensures) c.in-Some.operation (sym c.in-Some.ensures) (sym c.if-not-fits.ensures) (sym c.if-not-ready.ensures) (sym c.if-not-roomy.ensures))
+    (sym c.if-not-is_idle.ensures) c.in-Some.operation (sym c.in-Some.ensures) (sym c.if-not-fits.ensures) (sym c.if-not-ready.ensures) (sym c.if-not-roomy.ensures))
 
 pub returns-then-not-sided : goal.returns-then-not-sided
 returns-then-not-sided c m =
     (wrong_side_refused c.args.self.now m c.args.thread c.args.number c.args.a c.args.b c.index-self-thread.result c.if-self-ge8000.false (omega arith)
-    (sym c.if-not-is-idle.ensures) c.in-Some.operation (sym c.in-Some.ensures) (sym c.if-not-fits.ensures) (sym c.if-not-ready.ensures) (sym c.if-not-roomy.ensures) (sym c.if-not-sided.ensures))
+    (sym c.if-not-is_idle.ensures) c.in-Some.operation (sym c.in-Some.ensures) (sym c.if-not-fits.ensures) (sym c.if-not-ready.ensures) (sym c.if-not-roomy.ensures) (sym c.if-not-sided.ensures))
 
 pub returns : goal.returns
 returns c m = (
   begin_passes c.args.self.now m c.args.thread c.args.number c.args.a c.args.b c.index-self-thread.result c.if-self-ge8000.false (omega arith)
-      (sym c.if-not-is-idle.ensures) c.in-Some.operation (sym c.in-Some.ensures) (sym c.if-not-fits.ensures) (sym c.if-not-ready.ensures) (sym c.if-not-roomy.ensures) (sym c.if-not-sided.ensures),
+      (sym c.if-not-is_idle.ensures) c.in-Some.operation (sym c.in-Some.ensures) (sym c.if-not-fits.ensures) (sym c.if-not-ready.ensures) (sym c.if-not-roomy.ensures) (sym c.if-not-sided.ensures),
   sym c.in-Some.ensures,
 )

@@ -10,8 +10,8 @@ use Rattle.tables.proofs.tables.Tables.begin.Goals as goal
 pub returns-in-Err : goal.returns-in-Err
 returns-in-Err c m = refused (c.in-Err.ensures m)
 
-pub offset-bounds-self-thread : goal.offset-bounds-self-thread
-offset-bounds-self-thread c =
+pub offset_bounds-self-thread : goal.offset_bounds-self-thread
+offset_bounds-self-thread c =
     let x = c.args.self.now in
     let h = c.in-Ok.ensures (fresh 1 false) in
     let p = begin_passed_by x (fresh 1 false) c.args.thread c.args.number c.args.a c.args.b c.in-Ok.operation h.0 h.1 in
@@ -34,8 +34,8 @@ bounds-self-thread c =
     let lt : c.args.thread < 8 = omega (arith, p.thread, x.layout.threads_high) in
     search rules
 
-pub offset-bounds-self-thread-in-Ok : goal.offset-bounds-self-thread-in-Ok
-offset-bounds-self-thread-in-Ok c =
+pub offset_bounds-self-thread-in-Ok : goal.offset_bounds-self-thread-in-Ok
+offset_bounds-self-thread-in-Ok c =
     let x = c.args.self.now in
     let h = c.in-Ok.ensures (fresh 1 false) in
     let p = begin_passed_by x (fresh 1 false) c.args.thread c.args.number c.args.a c.args.b c.in-Ok.operation h.0 h.1 in
@@ -58,15 +58,15 @@ bounds-self-thread-in-Ok c =
     let lt : c.args.thread < 8 = omega (arith, p.thread, x.layout.threads_high) in
     search rules
 
-pub overflow-add-self : goal.overflow-add-self
-overflow-add-self c =
+pub overflow_add-self : goal.overflow_add-self
+overflow_add-self c =
     let x = c.args.self.now in
     let h = c.in-Ok.ensures (fresh 1 false) in
     let few = begin_few x (fresh 1 false) c.args.thread c.args.number c.args.a c.args.b h.0 in
     omega (arith, few)
 
-pub invariant-of-self : goal.invariant-of-self
-invariant-of-self c =
+pub invariant_of-self : goal.invariant_of-self
+invariant_of-self c =
     let x = c.args.self.now in
     let h = c.in-Ok.ensures (fresh 1 false) in
     let p = begin_passed_by x (fresh 1 false) c.args.thread c.args.number c.args.a c.args.b c.in-Ok.operation h.0 h.1 in
@@ -74,7 +74,7 @@ invariant-of-self c =
     let row' = c.begin.new.self in
     let z = x.layout.settings in
     let fits = begun_fitting x t c.index-self-thread.result c.in-Ok.operation p in
-    (length-set x.threads t row' ∙ x.eight, (fitting_set z x.threads t row' x.fit (ap (fitting z) c.begin.ensures ∙ fits), tt))
+    record { eight = length-set x.threads t row' ∙ x.eight; fit = fitting_set z x.threads t row' x.fit (ap (fitting z) c.begin.ensures ∙ fits) }
 
 pub returns-in-Ok : goal.returns-in-Ok
 returns-in-Ok c m =

@@ -1,5 +1,6 @@
 use Rattle.std.proofs.Common.{◌<◌, arith}
 use Rattle.std.proofs.lemmas.Bool.{lt-ltb}
+use Rattle.protocol.specs.Plain.{doing_of}
 use Rattle.protocol.specs.Questions.{is_thread}
 use Rattle.protocol.specs.Tables.{Thread as Row, doing_at}
 use Rattle.tables.proofs.RowAnswers.{shown_row}
@@ -11,4 +12,4 @@ returns c =
     let t = c.args.thread in
     let z = x.layout.settings in
     let lt : t < z.threads = omega arith in
-    shown_row x t c.index-self-thread.result (is_thread t) (λ (r : Row). doing_at r.point) c.doing.result lt (lt-ltb t z.threads lt) c.doing.ensures
+    shown_row x t c.index-self-thread.result (is_thread t) (λ (r : Row). doing_at r.point) (doing_of c.doing.result) lt (lt-ltb t z.threads lt) c.doing.ensures

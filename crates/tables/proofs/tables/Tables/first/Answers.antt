@@ -7,4 +7,4 @@ use Rattle.tables.proofs.tables.Tables.first.Goals as goal
 pub returns : goal.returns
 returns c =
     let z = c.args.layout.settings in
-    first_tables_lem z (row_of c.idle.result) (states_of c.all-free.result) c.args.layout.threads_high c.idle.ensures.row c.all-free.ensures
+    first_tables_lem z (row_of c.idle.result) (states_of c.all_free.result) c.args.layout.threads_high c.idle.ensures.row c.all_free.ensures

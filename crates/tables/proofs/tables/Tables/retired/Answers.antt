@@ -11,4 +11,4 @@ returns c =
     let t = c.args.thread in
     let z = x.layout.settings in
     let lt : t < z.threads = omega arith in
-    shown_row x t c.index-self-thread.result (is_thread t) (λ (r : Row). r.retired) c.as-slice.result.now lt (lt-ltb t z.threads lt) c.as-slice.ensures
+    shown_row x t c.index-self-thread.result (is_thread t) (λ (r : Row). r.retired) c.as_slice.result.now lt (lt-ltb t z.threads lt) c.as_slice.ensures

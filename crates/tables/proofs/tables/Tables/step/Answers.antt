@@ -23,13 +23,13 @@ returns-then-thread-self g c =
     let m = g.M.Memory.meaning c.args.memory.now in
     refused (no_such_thread t (tables_of c.args.self.now) (λ y. later y m t (thread_of y t)) c.if-self-ge8000.false c.if-thread-self.true)
 
-pub returns-then-is-idle : goal.returns-then-is-idle
-returns-then-is-idle g c =
+pub returns-then-is_idle : goal.returns-then-is_idle
+returns-then-is_idle g c =
     let x = c.args.self.now in
     let t = c.args.thread in
     let d = c.index-self-thread.result in
     let lt : t < x.layout.settings.threads = omega arith in
-    refused (idle_refused (tables_of x) (g.M.Memory.meaning c.args.memory.now) t (row_of (get_or x.threads t d)) (row_at x t d lt) (sym c.if-is-idle.ensures) c.if-self-ge8000.false lt)
+    refused (idle_refused (tables_of x) (g.M.Memory.meaning c.args.memory.now) t (row_of (get_or x.threads t d)) (row_at x t d lt) (sym c.if-is_idle.ensures) c.if-self-ge8000.false lt)
 
 -- the cell is one of the machine's
 pub ask-requires : goal.ask-requires
@@ -45,21 +45,21 @@ ask-requires g c =
     let cells = request_cells here (ranges x.layout.settings x.layout.lawful) lt own.operation own.step own.node own.version own.clock (loaded_of own.loaded) (length (list_of own.retired)) (x.fit d t (omega arith)) in
     (omega arith, rw (c.request.ensures (states_of x.nodes)) cells)
 
-pub returns-in-err-told : goal.returns-in-err-told
-returns-in-err-told g c =
-    let h = c.in-err-told.ensures in
-    let p = err_from_is_err_and c.from-residual.result c.from-residual.ensures.1 in
+pub returns-in_err-told : goal.returns-in_err-told
+returns-in_err-told g c =
+    let h = c.in_err-told.ensures in
+    let p = err_from_is_err_and c.from_residual.result c.from_residual.ensures.1 in
     rw p.1 (step_refused c.args.self.now (g.M.Memory.meaning c.args.memory.now) c.args.thread c.bound.result c.index-self-thread.result c.if-self-ge8000.false (omega arith) c.bound.ensures
-    (sym c.if-is-idle.ensures) (request_of c.request.result) c.request.ensures (g.M.Memory.meaning c.ask.new.memory) p.0 (h.0 ∙ ap Some (sym p.2)) h.1)
+    (sym c.if-is_idle.ensures) (request_of c.request.result) c.request.ensures (g.M.Memory.meaning c.ask.new.memory) p.0 (h.0 ∙ ap Some (sym p.2)) h.1)
 
 pub returns : goal.returns
 returns g c =
-    let h = c.in-ok-told.ensures in
+    let h = c.in_ok-told.ensures in
     step_done c.args.self.now (g.M.Memory.meaning c.args.memory.now) c.args.thread c.bound.result c.index-self-thread.result c.if-self-ge8000.false (omega arith) c.bound.ensures
-    (sym c.if-is-idle.ensures) (request_of c.request.result) c.request.ensures (g.M.Memory.meaning c.ask.new.memory) c.advance-answer.new.self c.advance-answer.new.nodes c.advance-answer.result (told_of c.in-ok-told.told)
+    (sym c.if-is_idle.ensures) (request_of c.request.result) c.request.ensures (g.M.Memory.meaning c.ask.new.memory) c.advance-answer.new.self c.advance-answer.new.nodes c.advance-answer.result (told_of c.in_ok-told.told)
     h.0 h.1 c.advance-answer.ensures.outcome
 
-pub invariant-of-self : goal.invariant-of-self
-invariant-of-self g c =
+pub invariant_of-self : goal.invariant_of-self
+invariant_of-self g c =
     let x = c.args.self.now in
-    (length-set x.threads c.args.thread c.advance-answer.new.self ∙ x.eight, (fitting_set x.layout.settings x.threads c.args.thread c.advance-answer.new.self x.fit c.advance-answer.ensures.fits, tt))
+    record { eight = length-set x.threads c.args.thread c.advance-answer.new.self ∙ x.eight; fit = fitting_set x.layout.settings x.threads c.args.thread c.advance-answer.new.self x.fit c.advance-answer.ensures.fits }
