@@ -1,5 +1,4 @@
 pub mod Held
 pub mod Queues
+pub mod SoundLaw
 pub mod StoreBuffer
-pub mod HeldSound
-pub mod Rows

@@ -4,7 +4,7 @@ ghost use Rattle.memory.specs.Calls.{Made, Stays, Stores, Loads, LandsOne, Excha
 ghost use Rattle.held.specs.Held.{held};
 ghost use Rattle.memory.specs.Landings.{Lands};
 ghost use Rattle.memory.specs.Meaning.{due};
-ghost use Rattle.held.specs.HeldSound.{held_sound};
+ghost use Rattle.held.specs.SoundLaw.{held_sound};
 
 use crate::Held;
 use crate::store_buffer::StoreBuffer;

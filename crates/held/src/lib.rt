@@ -1,4 +1,6 @@
 // The held memory: each write waits until it is told to land.
+#![tactic(auto)]
+
 pub mod calls;
 mod store_buffer;
 

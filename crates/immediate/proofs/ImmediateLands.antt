@@ -1,9 +1,9 @@
 -- The immediate memory: nothing waits, and a store lands its own write. Assumes nothing.
-use Rattle.std.proofs.Common.{◌≡◌, ℕ, zero, suc, ◌<◌, ◌≤◌, Bool, true, false, List, [], ◌∷◌, ◌++◌, length, get_or, set, replicate, sym, refl, ap, ◌∙◌, subst, arith}
+use Rattle.std.proofs.Common.{◌≡◌, ℕ, ◌<◌, true, false, List, [], ◌∷◌, ◌++◌, length, get_or, set, replicate, sym, ap, ◌∙◌}
 use Rattle.std.proofs.lemmas.List.{get_or-set_same, set-set, set-get_or}
 use Rattle.memory.specs.declared.write.Write.{Write}
 use Rattle.memory.specs.Meaning.{Meaning, queue, cell, with_queue, with_cell, written, newest, value_or, loaded, stored, landed, landed_from, any_of, is_due, due}
-use Rattle.memory.specs.Landings.{Landing, LandsAs, Lands}
+use Rattle.memory.specs.Landings.{Lands}
 use Rattle.std.proofs.lemmas.Bool.{true≢false}
 use Rattle.memory.proofs.Views.{Pushed, landed_pops, stored_pushes, popped_left}
 use Rattle.memory.proofs.Soundness.{get_or-nils}

@@ -1,5 +1,5 @@
 -- What the immediate memory means, and what it lands. Assumes nothing.
-use Rattle.std.specs.Prelude.{◌≡◌, ℕ, true, List, [], replicate}
+use Rattle.std.specs.Prelude.{◌≡◌, ℕ, true, [], replicate}
 use Rattle.immediate.specs.declared.Immediate.{Immediate}
 use Rattle.memory.specs.Meaning.{Meaning, landed}
 

@@ -3,7 +3,7 @@ ghost use Rattle.std.specs.Prelude.{true};
 ghost use Rattle.memory.specs.Calls.{Made, Stays, Stores, Loads, LandsOne, Exchanges, Ticks};
 ghost use Rattle.immediate.specs.Immediate.{immediate, LandsOf};
 ghost use Rattle.memory.specs.Landings.{Lands};
-ghost use Rattle.std.proofs.Common.{rules, arith};
+ghost use Rattle.std.proofs.Common.{rules};
 
 use crate::Immediate;
 use memory::memory::Memory;
@@ -28,7 +28,7 @@ impl Immediate {
 impl Memory for Immediate {
     ghost meaning = { immediate };
 
-    ghost sound = { first_of (Prim.search rules, Prim.grind (arith, Self.row.coded.inj)) };
+    ghost sound = { Prim.search rules };
 
     fn store(&mut self, thread: usize, cell: usize, value: u64) -> Result<(), Refusal>
         ensures call { Stores Lands thread cell value (immediate self.old) (immediate self.new) result }

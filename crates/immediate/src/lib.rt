@@ -1,4 +1,6 @@
 // The immediate memory: each write lands in its store, so that none ever waits.
+#![tactic(auto)]
+
 pub mod calls;
 
 ghost use Rattle.std.specs.Prelude.{◌≡◌, ◌≤◌, length};

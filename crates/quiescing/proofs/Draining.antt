@@ -1,6 +1,6 @@
 -- Landing every write, threads ascending. Assumes nothing.
-use Rattle.std.proofs.Common.{◌≡◌, ℕ, zero, suc, ◌+◌, ◌<◌, ◌≤◌, min, false, not, ◌⊎◌, List, [], ◌∷◌, ◌++◌, length, Some, None, Ok, Err, Result, sym, refl, ap, ◌∙◌, subst, inl, inr, arith}
-use Rattle.std.specs.List.{AllByRecursion as All}
+use Rattle.std.proofs.Common.{◌≡◌, ℕ, suc, ◌+◌, ◌<◌, ◌≤◌, min, false, not, ◌⊎◌, List, [], ◌∷◌, ◌++◌, length, None, Ok, Err, Result, sym, refl, ap, ◌∙◌, subst, inl, inr, arith}
+use Rattle.std.specs.List.{AllByRecursion}
 use Rattle.std.specs.List.Sorted.{IsNonDecreasing}
 use Rattle.std.proofs.ByRecursion.{All-push, All-weaker}
 use Rattle.std.proofs.lemmas.List.{nil_from_length, get_or_past}
@@ -23,7 +23,7 @@ use Rattle.memory.proofs.Views.{lands_clock, lands_fixed, landed_pops, landed_sh
 pub record Draining (k : ℕ) (m m' : Meaning) : Type 0 where
   pub threads : List ℕ
   pub ascending : IsNonDecreasing threads
-  pub upto : All (λ (t : ℕ). t ≤ k) threads
+  pub upto : AllByRecursion (λ (t : ℕ). t ≤ k) threads
   pub told : Told threads m m'
   pub empty : (t : ℕ) → t < k → queue m' t ≡ []
 

@@ -1,5 +1,5 @@
 -- What the quiescing layer means over the memory below, and what it lands before a tick. Assumes nothing.
-use Rattle.std.specs.Prelude.{◌≡◌, ℕ, ◌<◌, min, Bool, true, false, ◌&&◌, List, [], ◌∷◌, Ok, Err, Result}
+use Rattle.std.specs.Prelude.{◌≡◌, ℕ, ◌<◌, min, true, false, ◌&&◌, List, [], ◌∷◌, Ok, Err, Result}
 use Rattle.std.specs.List.Sorted.{IsNonDecreasing}
 use Rattle.quiescing.specs.declared.Quiescing.{Quiescing}
 use Rattle.quiescing.specs.declared.Unmade.{Unmade}

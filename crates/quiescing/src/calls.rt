@@ -3,7 +3,7 @@ ghost use Rattle.std.specs.Prelude.{◌≡◌};
 ghost use Rattle.memory.specs.Calls.{Stores, Loads, LandsOne, Exchanges, Ticks};
 ghost use Rattle.memory.specs.Landings.{Lands};
 ghost use Rattle.quiescing.specs.Quiescing.{quiescing, LayerMade, QuietTicks};
-ghost use Rattle.std.proofs.Common.{rules, arith};
+ghost use Rattle.std.proofs.Common.{rules};
 
 use crate::drain::quiesce;
 use crate::{Quiescing, Unmade};
@@ -29,7 +29,7 @@ impl<M: Memory> Quiescing<M> {
 impl<M: Memory> Memory for Quiescing<M> {
     ghost meaning = { quiescing M.Memory.meaning };
 
-    ghost sound = { first_of (Prim.search rules, Prim.grind (arith, Self.row.coded.inj)) };
+    ghost sound = { Prim.search rules };
 
     fn store(&mut self, thread: usize, cell: usize, value: u64) -> Result<(), Refusal>
         ensures call { Stores Lands thread cell value (quiescing M.Memory.meaning self.old) (quiescing M.Memory.meaning self.new) result }

@@ -8,7 +8,7 @@ use memory::memory::Memory;
 // Whether some write has waited as long as the bound allows. Dates never fall along a thread's writes, so its oldest
 // decides.
 fn some_due<M: Memory>(memory: &M, bound: u32) -> bool
-    ensures { result ≡ due (with_bound (meaning memory.now) bound) }
+    ensures { result ≡ due (with_bound (M.meaning memory.now) bound) }
 {
     let clock = u64::from(memory.clock());
     for thread in 0..8 {
@@ -26,7 +26,7 @@ fn some_due<M: Memory>(memory: &M, bound: u32) -> bool
 
 // Lands every waiting write, threads ascending, each thread's oldest first.
 fn drain<M: Memory>(memory: &mut M)
-    ensures { Drains (meaning memory.old) (meaning memory.new) }
+    ensures { Drains (M.meaning memory.old) (M.meaning memory.new) }
 {
     for thread in 0..8 {
         while memory.waiting(thread) > 0 {
@@ -37,7 +37,7 @@ fn drain<M: Memory>(memory: &mut M)
 
 // Drains the memory if some write has waited as long as the bound allows.
 pub(crate) fn quiesce<M: Memory>(memory: &mut M, bound: u32)
-    ensures { Quiesces bound (meaning memory.old) (meaning memory.new) }
+    ensures { Quiesces bound (M.meaning memory.old) (M.meaning memory.new) }
 {
     if some_due(memory, bound) {
         drain(memory);

@@ -1,4 +1,6 @@
 // The quiescing layer over any memory: before a tick that some write would wait too long for, all writes land.
+#![tactic(auto)]
+
 pub mod calls;
 mod drain;
 

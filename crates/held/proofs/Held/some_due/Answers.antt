@@ -1,10 +1,11 @@
 use Rattle.std.proofs.Common.{◌+◌, ◌<◌, Some, None, sym, ◌∙◌, arith, below_more}
 use Rattle.std.proofs.lemmas.Bool.{le-leb, lt-leb}
 use Rattle.held.specs.Held.{held}
-use Rattle.held.specs.HeldSound.{held_due, held_sound}
+use Rattle.held.proofs.HeldSound.{held_due}
+use Rattle.held.specs.SoundLaw.{held_sound}
 use Rattle.memory.proofs.Dueness.{oldest_none_due, oldest_some_due}
 use Rattle.held.proofs.Held.some_due.Goals as goal
-use Rattle.held.proofs.Held.some_due.Goals.{in-Some+else-from, in-default}
+use Rattle.held.proofs.Held.some_due.Goals.{in-Some+else-from, in_default}
 
 pub returns-then-from : goal.returns-then-from
 returns-then-from c =
@@ -20,10 +21,10 @@ loop-buffer-preserved c =
     let t = c.loop-buffer.buffer-index in
     let lt : t < 8 = omega arith in
     below_more _ _ c.loop-buffer.invariant
-    (elim c.match-oldest-date.branch [
+    (elim c.match-oldest_date.branch [
       | in-Some+else-from w ↦
           held_due h t c.buffer-item.result (Some w.in-Some.date) lt w.in-Some.ensures ∙ lt-leb (w.in-Some.date + h.bound) h.clock (omega arith)
-      | in-default w ↦ held_due h t c.buffer-item.result None lt w.in-default.ensures
+      | in_default w ↦ held_due h t c.buffer-item.result None lt w.in_default.ensures
     ])
 
 pub returns : goal.returns

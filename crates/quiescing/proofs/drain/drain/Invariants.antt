@@ -1,4 +1,3 @@
-use Rattle.std.proofs.Common.{◌≡◌}
 use Rattle.memory.specs.Meaning.{Meaning, waiting_count}
 use Rattle.quiescing.proofs.Draining.{Draining}
 use Rattle.quiescing.proofs.drain.drain.Given as goal

@@ -2,7 +2,7 @@ use Rattle.std.proofs.Common.{◌≡◌, ◌<◌, true, false, eqb, sym, refl, a
 use Rattle.std.proofs.lemmas.Bool.{eq-eqb, ne_eqb}
 use Rattle.held.specs.Held.{held}
 use Rattle.memory.specs.Meaning.{cell, exchanged}
-use Rattle.held.specs.HeldSound.{held_count}
+use Rattle.held.proofs.HeldSound.{held_count}
 use Rattle.memory.proofs.Passing.{exchange_passes, exchange_waits}
 use Rattle.memory.proofs.Views.{lands_none, exchanged_none}
 use Rattle.held.proofs.calls.HeldMemory.exchange.Goals as goal

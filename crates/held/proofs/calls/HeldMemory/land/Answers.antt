@@ -1,24 +1,24 @@
 use Rattle.std.proofs.Common.{◌<◌, length, set, refl, ap, ◌∙◌, arith}
 use Rattle.held.specs.Held.{held}
-use Rattle.held.specs.HeldSound.{facts, held_queue, held_lands, lands_sound, oldest_in_cells}
+use Rattle.held.proofs.HeldSound.{facts, held_queue, held_lands, lands_sound, oldest_in_cells}
 use Rattle.memory.proofs.Passing.{land_passes, land_none}
 use Rattle.memory.proofs.Views.{lands_same}
 use Rattle.held.proofs.calls.HeldMemory.land.Goals as goal
 
 pub bounds-self-write : goal.bounds-self-write
-bounds-self-write c = oldest_in_cells c.args.self.now c.args.thread c.index-self-thread.result c.take-oldest.new.self c.in-Some.write (omega arith) c.in-Some.ensures
+bounds-self-write c = oldest_in_cells c.args.self.now c.args.thread c.index-self-thread.result c.take_oldest.new.self c.in-Some.write (omega arith) c.in-Some.ensures
 
-pub offset-bounds-self-write : goal.offset-bounds-self-write
-offset-bounds-self-write c =
-    let inside = oldest_in_cells c.args.self.now c.args.thread c.index-self-thread.result c.take-oldest.new.self c.in-Some.write (omega arith) c.in-Some.ensures in
+pub offset_bounds-self-write : goal.offset_bounds-self-write
+offset_bounds-self-write c =
+    let inside = oldest_in_cells c.args.self.now c.args.thread c.index-self-thread.result c.take_oldest.new.self c.in-Some.write (omega arith) c.in-Some.ensures in
     omega arith
 
-pub invariant-of-self : goal.invariant-of-self
-invariant-of-self c =
+pub invariant_of-self : goal.invariant_of-self
+invariant_of-self c =
     let h = c.args.self.now in
     let w = c.in-Some.write in
-    facts h.clock h.bound (set h.cells w.cell w.value) (set h.buffers c.args.thread c.take-oldest.new.self)
-    (lands_sound h c.args.thread c.index-self-thread.result c.take-oldest.new.self w (omega arith) c.in-Some.ensures)
+    facts h.clock h.bound (set h.cells w.cell w.value) (set h.buffers c.args.thread c.take_oldest.new.self)
+    (lands_sound h c.args.thread c.index-self-thread.result c.take_oldest.new.self w (omega arith) c.in-Some.ensures)
 
 pub returns-in-Some : goal.returns-in-Some
 returns-in-Some c =
@@ -27,7 +27,7 @@ returns-in-Some c =
     let lt : c.args.thread < 8 = omega arith in
     let waits = ap length (held_queue h c.args.thread c.index-self-thread.result lt ∙ c.in-Some.ensures) in
     let passes = land_passes c.args.thread (held h) lt (omega arith) in
-    let is = held_lands h c.args.thread c.index-self-thread.result c.take-oldest.new.self w lt c.in-Some.ensures in
+    let is = held_lands h c.args.thread c.index-self-thread.result c.take_oldest.new.self w lt c.in-Some.ensures in
     record { call = record { passes = passes; does = lands_same is }; exact = record { passes = passes; does = is } }
 
 pub returns-in-None : goal.returns-in-None

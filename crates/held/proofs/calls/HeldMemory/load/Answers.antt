@@ -1,5 +1,5 @@
 use Rattle.std.proofs.Common.{Some, None, refl, arith, rules}
-use Rattle.held.specs.HeldSound.{held_loads}
+use Rattle.held.proofs.HeldSound.{held_loads}
 use Rattle.memory.proofs.Views.{lands_none}
 use Rattle.held.proofs.calls.HeldMemory.load.Goals as goal
 

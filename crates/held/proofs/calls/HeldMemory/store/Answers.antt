@@ -1,7 +1,7 @@
 use Rattle.std.proofs.Common.{◌<◌, set, sym, refl, arith}
 use Rattle.held.specs.Held.{held}
 use Rattle.memory.specs.Meaning.{waiting_count}
-use Rattle.held.specs.HeldSound.{facts, held_count, held_queue, held_stores, stores_sound}
+use Rattle.held.proofs.HeldSound.{facts, held_count, held_queue, held_stores, stores_sound}
 use Rattle.memory.proofs.Passing.{store_passes, store_full}
 use Rattle.memory.proofs.Views.{lands_same}
 use Rattle.held.proofs.calls.HeldMemory.store.Goals as goal
@@ -15,8 +15,8 @@ returns-then-not-push c =
     let full = store_full c.args.thread c.args.cell (held h) lt (omega arith) (omega arith) in
     record { call = record { fails = full; same = refl }; exact = record { fails = full; same = refl } }
 
-pub invariant-of-self : goal.invariant-of-self
-invariant-of-self c =
+pub invariant_of-self : goal.invariant_of-self
+invariant_of-self c =
     let h = c.args.self.now in
     let p = c.if-not-push.ensures in
     facts h.clock h.bound h.cells (set h.buffers c.args.thread c.push.new.self)

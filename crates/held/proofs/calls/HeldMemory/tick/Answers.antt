@@ -10,7 +10,7 @@ pub returns : goal.returns
 unfolding ticked
 returns c =
     let m = held c.args.self.now in
-    let none : due m ≡ false = sym c.if-some-due.ensures in
+    let none : due m ≡ false = sym c.if-some_due.ensures in
     let passes = tick_passes m (omega arith) (not_from_false (due m) none) in
     record {
       call = record { passes = passes; does = record { between = m; lands = lands_none m; none_due = none; is = refl } };

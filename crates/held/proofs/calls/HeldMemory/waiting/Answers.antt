@@ -1,5 +1,5 @@
 use Rattle.std.proofs.Common.{length, sym, ap, arith}
-use Rattle.held.specs.HeldSound.{held_count, held_past}
+use Rattle.held.proofs.HeldSound.{held_count, held_past}
 use Rattle.held.proofs.calls.HeldMemory.waiting.Goals as goal
 
 pub returns-then-thread-ge8 : goal.returns-then-thread-ge8

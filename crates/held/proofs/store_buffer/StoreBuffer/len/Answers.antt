@@ -1,5 +1,5 @@
 use Rattle.std.proofs.Common.{sym}
-use Rattle.held.specs.Rows.{row_length}
+use Rattle.held.specs.SoundLaw.{row_length}
 use Rattle.held.proofs.store_buffer.StoreBuffer.len.Goals as goal
 
 pub returns : goal.returns

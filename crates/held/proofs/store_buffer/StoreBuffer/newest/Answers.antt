@@ -1,6 +1,6 @@
 use Rattle.std.proofs.Common.{arith}
 use Rattle.std.proofs.lemmas.Bool.Decides.{nat_tests}
-use Rattle.held.specs.Rows.{newest_more, newest_all}
+use Rattle.held.proofs.Rows.{newest_more, newest_all}
 use Rattle.held.proofs.store_buffer.StoreBuffer.newest.Goals as goal
 use Rattle.held.proofs.store_buffer.StoreBuffer.newest.Goals.{then-self-i, else-self-i}
 

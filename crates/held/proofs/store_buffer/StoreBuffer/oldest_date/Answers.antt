@@ -1,7 +1,7 @@
 use Rattle.std.proofs.Common.{sym, ap, arith}
 use Rattle.memory.specs.Meaning.{date_of_first}
 use Rattle.held.specs.StoreBuffer.{row}
-use Rattle.held.specs.Rows.{row_empty, first_date}
+use Rattle.held.proofs.Rows.{row_empty, first_date}
 use Rattle.held.proofs.store_buffer.StoreBuffer.oldest_date.Goals as goal
 
 pub returns-then-self-eq0 : goal.returns-then-self-eq0

@@ -1,6 +1,7 @@
 use Rattle.std.proofs.Common.{length, take, ap, ◌∙◌, arith}
 use Rattle.held.specs.StoreBuffer.{row}
-use Rattle.held.specs.Rows.{row_length, append_some, append_none}
+use Rattle.held.proofs.Rows.{append_some, append_none}
+use Rattle.held.specs.SoundLaw.{row_length}
 use Rattle.held.proofs.store_buffer.StoreBuffer.push.Goals as goal
 
 pub returns-in-Some : goal.returns-in-Some

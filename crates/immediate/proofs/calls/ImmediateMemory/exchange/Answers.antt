@@ -1,7 +1,7 @@
-use Rattle.std.proofs.Common.{◌≡◌, ◌<◌, true, false, eqb, length, sym, refl, ap, arith}
+use Rattle.std.proofs.Common.{◌≡◌, true, false, eqb, length, sym, refl, ap, arith}
 use Rattle.std.proofs.lemmas.Bool.{eq-eqb, ne_eqb}
 use Rattle.immediate.specs.Immediate.{immediate}
-use Rattle.memory.specs.Meaning.{cell, exchanged, waiting_count}
+use Rattle.memory.specs.Meaning.{cell, exchanged}
 use Rattle.immediate.proofs.ImmediateLands.{idle_queue}
 use Rattle.memory.proofs.Passing.{exchange_passes}
 use Rattle.memory.proofs.Views.{lands_none, exchanged_none}

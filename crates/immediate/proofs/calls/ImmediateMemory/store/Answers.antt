@@ -1,4 +1,4 @@
-use Rattle.std.proofs.Common.{◌≡◌, ◌<◌, sym, refl, arith, rules}
+use Rattle.std.proofs.Common.{◌<◌, sym, refl, arith, rules}
 use Rattle.immediate.specs.Immediate.{immediate}
 use Rattle.immediate.proofs.ImmediateLands.{lands_own, store_lands}
 use Rattle.immediate.proofs.calls.ImmediateMemory.store.Goals as goal

@@ -1,4 +1,6 @@
 use Rattle.std.proofs.Common.{None, refl, ◌∙◌}
+use Rattle.std.specs.Option.{option_map}
+use Rattle.protocol.specs.Plain.{doing_of}
 use Rattle.protocol.specs.Questions.{doing_shown}
 use Rattle.protocol.proofs.Asked.{doing_asked_lem}
 use Rattle.machine.specs.State.{state}
@@ -14,5 +16,5 @@ returns-then-not-self g c =
 pub returns : goal.returns
 returns g c =
     let x = c.args.self.now in
-    let p = since_set_up x.is_set_up x.tables (λ y. doing_shown y c.args.thread) c.doing.result c.if-not-self.false c.doing.ensures in
+    let p = since_set_up x.is_set_up x.tables (λ y. doing_shown y c.args.thread) (option_map doing_of c.doing.result) c.if-not-self.false c.doing.ensures in
     record { tables = p; history = λ h e. p ∙ doing_asked_lem h (state g.M.Memory.meaning x) e c.args.thread }

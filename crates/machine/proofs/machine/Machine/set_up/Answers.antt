@@ -16,16 +16,16 @@ returns-in_default g c =
     let m = g.M.Memory.meaning x.memory in
     set_up_range x.is_set_up x.tables x.tables m m c.args.settings c.if-self.false (range_no (in_range c.args.settings) c.args.settings c.in_default.ensures)
 
-pub returns-then-not-is-new : goal.returns-then-not-is-new
-returns-then-not-is-new g c =
+pub returns-then-not-is_new : goal.returns-then-not-is_new
+returns-then-not-is_new g c =
     let x = c.args.self.now in
     let r = range_yes (in_range c.args.settings) c.in-Some.layout.settings c.args.settings c.in-Some.ensures in
-    set_up_old x.is_set_up x.tables x.tables (g.M.Memory.meaning x.memory) (g.M.Memory.meaning c.is-new.new.memory) c.args.settings c.if-self.false r.0
-    (sym c.if-not-is-new.ensures.answer) c.is-new.ensures.same
+    set_up_old x.is_set_up x.tables x.tables (g.M.Memory.meaning x.memory) (g.M.Memory.meaning c.is_new.new.memory) c.args.settings c.if-self.false r.0
+    (sym c.if-not-is_new.ensures.answer) c.is_new.ensures.same
 
 pub returns : goal.returns
 returns g c =
     let x = c.args.self.now in
     let r = range_yes (in_range c.args.settings) c.in-Some.layout.settings c.args.settings c.in-Some.ensures in
-    set_up_done x.is_set_up x.tables c.first-self.result (g.M.Memory.meaning x.memory) (g.M.Memory.meaning c.is-new.new.memory) c.args.settings c.if-self.false r.0
-    (sym c.if-not-is-new.ensures.answer) c.is-new.ensures.same (c.first-self.ensures ∙ ap first_tables r.1)
+    set_up_done x.is_set_up x.tables c.first-self.result (g.M.Memory.meaning x.memory) (g.M.Memory.meaning c.is_new.new.memory) c.args.settings c.if-self.false r.0
+    (sym c.if-not-is_new.ensures.answer) c.is_new.ensures.same (c.first-self.ensures ∙ ap first_tables r.1)

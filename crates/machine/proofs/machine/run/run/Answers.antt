@@ -10,7 +10,7 @@ pub loop-call-preserved : goal.loop-call-preserved
 loop-call-preserved g c = (
   omega arith,
   omega arith,
-  runs_more _ _ _ _ _ _ _ _ _ c.loop-call-test.true (search rules) c.push-reserved.ensures.items c.loop-call.invariant.2 c.call.ensures,
+  runs_more _ _ _ _ _ _ _ _ _ c.loop-call-test.true (search rules) c.push_reserved.ensures.items c.loop-call.invariant.2 c.call.ensures,
 )
 
 pub returns : goal.returns

@@ -1,5 +1,4 @@
 use Rattle.std.proofs.Common.{◌≡◌, ◌<◌, min, arith}
-use Rattle.memory.specs.Meaning.{Meaning}
 use Rattle.quiescing.proofs.Draining.{quiet_ticks}
 use Rattle.quiescing.proofs.calls.QuiescingMemory.tick.Goals as goal
 

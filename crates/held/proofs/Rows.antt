@@ -1,21 +1,14 @@
 -- The row of a store buffer, and a table of such rows. Assumes nothing.
 use Rattle.std.specs.Prelude.{◌≡◌, ℕ, zero, suc, ◌+◌, ◌<◌, ◌≤◌, cond, List, [], ◌∷◌, ◌++◌, map, length, get_or, take, drop, set, Some, None, Option, ◌==◌, slice_index_or, slice_set, refl}
 use Rattle.std.proofs.Common.{sym, ap, ◌∙◌, inl, inr, arith}
-use Rattle.std.proofs.lemmas.List.{length-take-le, length-map, get_or-take, get_or-map, get_or_past, map-set, at_drop_more, at_drop_all}
+use Rattle.std.proofs.lemmas.List.{length-map, get_or-take, get_or-map, get_or_past, map-set, at_drop_more, at_drop_all}
 use Rattle.std.proofs.lemmas.Bool.{cases_lt, lt-ltb, le-ltb}
 use Rattle.dated.specs.Row.{appended, first_of, head_of}
 use Rattle.held.specs.declared.store_buffer.StoreBuffer.{StoreBuffer}
 use Rattle.memory.specs.declared.write.Write.{Write}
 use Rattle.memory.specs.Meaning.{Meaning, queue, date_of_first, newest_or, with_cell, written, stored, landed, landed_from}
 use Rattle.held.specs.StoreBuffer.{row}
-
--- what a read past the end would give
-abbrev pub nil : Write
-nil = record { cell = 0; value = 0; date = 0 }
-
-pub row_length : (b : StoreBuffer) → length (row b) ≡ b.len
-unfolding row
-row_length b = length-take-le b.len b.writes (omega arith)
+use Rattle.held.specs.SoundLaw.{nil, row_length}
 
 pub row_empty : (b : StoreBuffer) → b.len ≡ 0 → row b ≡ []
 unfolding row
@@ -62,12 +55,6 @@ queue_at bs t d lt = get_or-map row bs t d [] lt
 
 pub queue_past : (bs : List StoreBuffer) (t : ℕ) → length bs ≤ t → slice_index_or (map row bs) t [] ≡ []
 queue_past bs t past = get_or_past (map row bs) t [] (rw length-map past)
-
--- no row is longer than a buffer
-pub rows_room : (bs : List StoreBuffer) (t : ℕ) → length (slice_index_or (map row bs) t []) ≤ 8
-rows_room [] t = omega arith
-rows_room (b ∷ bs) zero = rw (row_length b) b.within
-rows_room (b ∷ bs) (suc t) = rows_room bs t
 
 -- a meaning with other cells and other writes waiting, and one with the rows of other buffers
 abbrev waits_with : Meaning → List ℕ → List (List Write) → Meaning

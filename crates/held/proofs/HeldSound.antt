@@ -1,50 +1,37 @@
 -- The ghost facts of a held memory are what `Sound` says of its meaning. Assumes nothing.
-use Rattle.std.specs.Prelude.{◌≡◌, ℕ, ◌+◌, ◌-◌, ◌<◌, ◌≤◌, false, List, [], ◌∷◌, ◌++◌, map, length, get_or, Option, slice_index_or, slice_set, refl}
+use Rattle.std.specs.Prelude.{◌≡◌, ℕ, ◌+◌, ◌<◌, ◌≤◌, false, List, [], ◌∷◌, ◌++◌, map, length, Option, slice_index_or, slice_set, refl}
 use Rattle.std.proofs.Common.{sym, ap, subst, ◌∙◌, arith}
 use Rattle.std.specs.List.{AllByRecursion}
-use Rattle.std.specs.List.Sorted.{IsNonDecreasingBy}
-use Rattle.std.proofs.ByRecursion.{All-get_or, All-from_get_or}
-use Rattle.std.proofs.lemmas.List.{length-map, get_or_default}
+use Rattle.std.proofs.ByRecursion.{All-get_or}
+use Rattle.std.proofs.lemmas.List.{length-map}
 use Rattle.held.specs.declared.Held.{Held}
 use Rattle.held.specs.declared.store_buffer.StoreBuffer.{StoreBuffer}
 use Rattle.memory.specs.declared.write.Write.{Write}
 use Rattle.memory.specs.Calls.{Sound}
 use Rattle.held.specs.Held.{held}
 use Rattle.memory.specs.Meaning.{queue, cell, waiting_count, date_of_first, oldest_date, newest, value_or, loaded, with_cell, written, stored, landed}
-use Rattle.held.specs.Queues.{write_at, DatesRise, DatesPast, InCells}
+use Rattle.held.specs.Queues.{DatesRise, DatesPast, InCells}
 use Rattle.held.specs.StoreBuffer.{row}
+use Rattle.held.specs.SoundLaw.{nil, held_sound}
 use Rattle.memory.proofs.Dueness.{date_due}
-use Rattle.held.specs.Rows.{nil, queue_at, queue_past, rows_room, with_rows, push_stores, take_lands}
-use Rattle.memory.proofs.Soundness.{date_of, stored_sound, landed_sound}
+use Rattle.held.proofs.Rows.{queue_at, queue_past, with_rows, push_stores, take_lands}
+use Rattle.memory.proofs.Soundness.{stored_sound, landed_sound}
 
--- From the facts by index.
-rises_by : (qs : List (List Write)) → DatesRise qs → (t : ℕ) → IsNonDecreasingBy date_of (slice_index_or qs t [])
-rises_by qs h t i j d le lt =
-    let back : i + (j - i) ≡ j = omega arith in
-    let ups : (write_at qs t i).date ≤ (write_at qs t (i + (j - i))).date = h t i (j - i) (rw back lt) in
-    let a : write_at qs t i ≡ get_or (slice_index_or qs t []) i d = get_or_default (slice_index_or qs t []) i nil d (omega arith) in
-    let b : write_at qs t j ≡ get_or (slice_index_or qs t []) j d = get_or_default (slice_index_or qs t []) j nil d lt in
-    simp (a, b) at (rw back at ups)
-
-pub held_sound : (h : Held) → Sound (held h)
-held_sound h =
-    record {
-      cells = h.places;
-      threads = length-map h.buffers row ∙ h.threads;
-      bound_low = h.bound_low;
-      bound_high = h.bound_high;
-      clock_end = h.clock_end;
-      room = rows_room h.buffers;
-      in_cells = λ t. All-from_get_or (λ (w : Write). w.cell < 64) (slice_index_or (map row h.buffers) t []) nil (h.in_cells t);
-      rises = rises_by (map row h.buffers) h.rises;
-      past = λ t. All-from_get_or (λ (w : Write). w.date ≤ h.clock) (slice_index_or (map row h.buffers) t []) nil (h.past t);
-    }
-
--- And back, in the order of the ghost fields.
+-- What `Sound` says gives the ghost facts.
 pub facts : (clock bound : ℕ) (cells : List ℕ) (bs : List StoreBuffer)
     → Sound (record { clock = clock; cells = cells; bound = bound; self_landing = false; waiting = map row bs })
-    → (length cells ≡ 64) × ((length bs ≡ 8) × ((clock ≤ 1000000) × ((1 ≤ bound) × ((bound ≤ 1000) × (DatesRise (map row bs) × (DatesPast clock (map row bs) × (InCells (map row bs) × Unit {0})))))))
-facts clock bound cells bs s = (s.cells, (sym (length-map bs row) ∙ s.threads, (s.clock_end, (s.bound_low, (s.bound_high, (rises, (past, (in_cells, tt))))))))
+    → record { places : length cells ≡ 64; threads : length bs ≡ 8; clock_end : clock ≤ 1000000; bound_low : 1 ≤ bound; bound_high : bound ≤ 1000; rises : DatesRise (map row bs); past : DatesPast clock (map row bs); in_cells : InCells (map row bs) }
+facts clock bound cells bs s =
+    record {
+      places = s.cells;
+      threads = sym (length-map bs row) ∙ s.threads;
+      clock_end = s.clock_end;
+      bound_low = s.bound_low;
+      bound_high = s.bound_high;
+      rises = rises;
+      past = past;
+      in_cells = in_cells;
+    }
   where
     rises : DatesRise (map row bs)
     rises t i d lt = s.rises t i (i + d) nil (omega arith) lt
