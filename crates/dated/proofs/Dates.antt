@@ -1,5 +1,5 @@
 -- Lists whose stamps never fall, over any element: what an append, the loss of the first and a filter leave of that order.
-use Rattle.std.proofs.Common.{ℕ, zero, suc, ◌-◌, ◌<◌, ◌≤◌, Bool, true, false, cond, List, [], ◌∷◌, ◌++◌, length, filter, suc-le-suc, zero-le, le_of_suc-le-suc, arith}
+use Rattle.std.proofs.Common.{ℕ, zero, suc, ◌-◌, ◌≤◌, Bool, true, false, cond, List, [], ◌∷◌, ◌++◌, length, filter, suc-le-suc, zero-le, le_of_suc-le-suc, arith}
 use Rattle.std.specs.List.{AllByRecursion}
 use Rattle.std.specs.List.Sorted.{IsNonDecreasingBy}
 use Rattle.std.proofs.ByRecursion.{All-from_get_or, All-get_or, all_kept_by}

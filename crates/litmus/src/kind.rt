@@ -52,7 +52,7 @@ fn carried<M: Memory + Drop>(
     mut memory: M,
     calls: &[Call],
 ) -> Result<Vec<Answer>, Failure>
-    ensures { Obeys (meaning memory) calls.now result }
+    ensures { Obeys (M.meaning memory) calls.now result }
 {
     match run(heap, &mut memory, calls) {
         Ok(answers) => Ok(answers),

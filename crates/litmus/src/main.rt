@@ -1,4 +1,6 @@
 // The store-buffering test on each memory: two threads, each stores to its own cell and loads the other's.
+#![tactic(auto)]
+
 mod kind;
 mod observed;
 mod shown;

@@ -1,10 +1,10 @@
 -- Tests over all threads and all cells. Assumes nothing.
-use Rattle.std.proofs.Common.{◌≡◌, ℕ, zero, suc, ◌+◌, ◌<◌, ◌≤◌, Bool, true, false, ◌&&◌, eqb, ◌⊎◌, List, [], ◌∷◌, length, get_or, replicate, Some, None, sym, refl, ap, ◌∙◌, inl, inr, suc-le-suc, zero-le, le_of_suc-le-suc, arith}
-use Rattle.std.proofs.lemmas.List.{nil_from_length, get_or_past, ext_get_or, length-replicate, get_or-replicate}
+use Rattle.std.proofs.Common.{◌≡◌, ℕ, zero, suc, ◌<◌, ◌≤◌, Bool, true, false, eqb, ◌⊎◌, List, [], ◌∷◌, length, get_or, Some, None, refl, ap, ◌∙◌, inl, inr, suc-le-suc, zero-le, le_of_suc-le-suc, arith}
+use Rattle.std.proofs.lemmas.List.{nil_from_length, get_or_past}
 use Rattle.std.proofs.lemmas.Bool.{cases_lt, lt-ltb, eqb-true, and_parts, and_from, and_left, and_right}
 use Rattle.memory.specs.declared.write.Write.{Write}
 use Rattle.memory.specs.declared.refusal.Refusal.{Refusal}
-use Rattle.memory.specs.Meaning.{Meaning, queue, cell, newest, value_or, loaded, all_of, nothing_waits, cells_are_zero}
+use Rattle.memory.specs.Meaning.{Meaning, queue, cell, newest, value_or, loaded, all_of, nothing_waits}
 use Rattle.memory.specs.Landings.{Lands}
 use Rattle.memory.specs.Checks.{first_no, load_checks}
 use Rattle.memory.specs.Calls.{Loaded}

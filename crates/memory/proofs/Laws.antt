@@ -1,5 +1,5 @@
 -- Every run of a memory from new keeps the laws, and every load and exchange in it is true. Assumes nothing.
-use Rattle.std.proofs.Common.{◌≡◌, ℕ, zero, suc, ◌+◌, ◌≤◌, Bool, true, List, [], ◌∷◌, ◌++◌, length, get_or, drop, replicate, sym, refl, ap, ◌∙◌, arith}
+use Rattle.std.proofs.Common.{◌≡◌, ℕ, zero, suc, ◌+◌, ◌≤◌, Bool, List, [], ◌∷◌, ◌++◌, length, get_or, drop, replicate, sym, refl, ap, ◌∙◌, arith}
 use Rattle.std.proofs.ByRecursion.{All-weaker}
 use Rattle.std.proofs.lemmas.List.{append-nil, drop_at}
 use Rattle.std.proofs.lemmas.List.Sorted.{IsNonDecreasingBy-short}
@@ -10,7 +10,7 @@ use Rattle.memory.specs.declared.run.Call.TheVariants.{Store, Load, Land, Exchan
 use Rattle.memory.specs.declared.run.Answer.TheVariants.{Refused}
 use Rattle.memory.specs.Meaning.{Meaning, queue, fresh, loaded}
 use Rattle.memory.specs.Landings.{Landing, LandsAs}
-use Rattle.memory.specs.History.{Event, event, Happens, refuses, stores, loads, lands, exchanges, ticks, New, Run, clock_in, ticks_of, stores_in, store_of, landed_in, writes_of, value_in, after_exchange, after_landings, TrueAnswer, Lawful, Always}
+use Rattle.memory.specs.History.{Event, Happens, refuses, stores, loads, lands, exchanges, ticks, New, Run, clock_in, ticks_of, stores_in, store_of, landed_in, writes_of, value_in, after_exchange, after_landings, TrueAnswer, Lawful, Always}
 use Rattle.memory.proofs.Passing.{store_passed, exchange_passed}
 use Rattle.memory.proofs.Soundness.{date_of, fresh_queue}
 use Rattle.memory.proofs.Standing.{Waits, Stands, lands_stand, stored_stands, exchanged_stands, ticked_stands}

@@ -1,9 +1,9 @@
 -- What each action does to a meaning, as seen through its projections. Only this file sees the lists. Assumes nothing.
-use Rattle.std.proofs.Common.{◌≡◌, ℕ, zero, suc, ◌+◌, ◌<◌, ◌≤◌, Bool, true, false, cond, eqb, leb, ◌≢◌, ◌⊎◌, List, [], ◌∷◌, ◌++◌, length, get_or, set, sym, refl, ap, ◌∙◌, subst, inl, inr, arith}
-use Rattle.std.proofs.lemmas.List.{length-set, get_or-set_same, get_or-set_other, append_assoc}
+use Rattle.std.proofs.Common.{◌≡◌, ℕ, zero, suc, ◌+◌, ◌<◌, ◌≤◌, true, false, eqb, ◌≢◌, ◌⊎◌, List, [], ◌∷◌, ◌++◌, length, get_or, sym, refl, ◌∙◌, subst, inl, inr, arith}
+use Rattle.std.proofs.lemmas.List.{length-set, get_or-set_same, get_or-set_other}
 use Rattle.std.proofs.lemmas.Bool.{cases_eq}
 use Rattle.memory.specs.declared.write.Write.{Write}
-use Rattle.memory.specs.Meaning.{Meaning, queue, cell, with_queue, with_cell, written, stored, landed, landed_from, exchanged, ticked}
+use Rattle.memory.specs.Meaning.{Meaning, queue, cell, written, stored, landed, landed_from, exchanged, ticked}
 use Rattle.memory.specs.Landings.{Landing, LandsAs, Lands}
 
 -- what no action changes

@@ -1,7 +1,7 @@
 -- The checks of each call, in their order, each with the refusal that a no gives. Assumes nothing.
 use Rattle.std.specs.Prelude.{ℕ, Bool, cond, not, ◌&&◌, ◌||◌, List, [], ◌∷◌, Some, None, Option, ◌==◌, nat_le, nat_lt}
 use Rattle.memory.specs.declared.refusal.Refusal.{Refusal}
-use Rattle.memory.specs.declared.refusal.Refusal.TheVariants.{OutOfRange, BufferFull, NothingWaiting, WritesWaiting, WriteDue, ClockAtEnd, NotMade}
+use Rattle.memory.specs.declared.refusal.Refusal.TheVariants.{OutOfRange, BufferFull, NothingWaiting, WritesWaiting, WriteDue, ClockAtEnd}
 use Rattle.memory.specs.Meaning.{Meaning, waiting_count, due}
 
 -- a check, with the refusal that it gives for a no

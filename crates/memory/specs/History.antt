@@ -11,7 +11,7 @@ use Rattle.memory.specs.declared.run.Answer.{Answer}
 use Rattle.memory.specs.declared.run.Answer.TheVariants.{Done, Value, Swapped, Refused}
 use Rattle.memory.specs.declared.run.RunFault.{RunFault}
 use Rattle.memory.specs.declared.run.RunFault.TheVariants.{NotNew, NoMemory}
-use Rattle.memory.specs.Meaning.{Meaning, queue, cell, fresh, is_new, newest, value_or, loaded, stored, landed, exchanged, ticked, due}
+use Rattle.memory.specs.Meaning.{Meaning, queue, cell, fresh, is_new, newest, value_or, loaded, stored, exchanged, ticked, due}
 use Rattle.memory.specs.Landings.{Landing, LandsAs}
 use Rattle.memory.specs.Checks.{Check, first_no, store_checks, load_checks, land_checks, exchange_checks, tick_checks}
 

@@ -1,4 +1,6 @@
 // Examples of the memories: each refusal by its number, the largest arguments, landings, and piles of layers.
+#![tactic(auto)]
+
 #[cfg(test)]
 mod every_memory;
 #[cfg(test)]

@@ -16,15 +16,13 @@ fn layer<M: Memory + Drop>(below: M, limit: u32) -> Result<Quiescing<M>, Refusal
 }
 
 #[test]
-fn refuses_what_is_out_of_range(rt: HostRuntime) -> Result<(), Fail> {
-    refuses_out_of_range(&rt, &mut layer(Held::new(1)?, 1)?);
-    Ok(())
+fn refuses_what_is_out_of_range() -> Result<(), Fail> {
+    refuses_out_of_range(&mut layer(Held::new(1)?, 1)?)
 }
 
 #[test]
-fn refuses_a_ninth_write(rt: HostRuntime) -> Result<(), Fail> {
-    fills_a_buffer(&rt, &mut layer(Held::new(1)?, 1)?);
-    Ok(())
+fn refuses_a_ninth_write() -> Result<(), Fail> {
+    fills_a_buffer(&mut layer(Held::new(1)?, 1)?)
 }
 
 #[test]
@@ -62,12 +60,12 @@ fn refuses_a_limit_out_of_range_or_a_used_memory(rt: HostRuntime) -> Result<(), 
     let mut used = Held::new(9)?;
     used.store(7, 63, 1)?;
     match Quiescing::new(used, 1) {
-        Ok(_) => Err(Fail::new("made over a used memory")),
+        Ok(_) => return Err(Fail::new("made over a used memory")),
         Err(unmade) => {
             assert_eq!(rt; unmade.refusal.number(), 7);
-            check_eq(unmade.below.waiting(7), 1)
+            assert_eq!(rt; unmade.below.waiting(7), 1);
         }
-    }?;
+    }
     let mut written = Immediate::new(9)?;
     written.store(0, 63, 1)?;
     assert!(rt; layer(written, 1).is_err());
@@ -94,7 +92,6 @@ fn stands_over_another_layer(rt: HostRuntime) -> Result<(), Fail> {
 }
 
 #[test]
-fn ends_over_the_immediate_memory(rt: HostRuntime) -> Result<(), Fail> {
-    ends_at_a_million(&rt, &mut layer(layer(Immediate::new(1)?, 1)?, 1000)?);
-    Ok(())
+fn ends_over_the_immediate_memory() -> Result<(), Fail> {
+    ends_at_a_million(&mut layer(layer(Immediate::new(1)?, 1)?, 1000)?)
 }

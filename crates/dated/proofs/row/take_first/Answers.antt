@@ -1,4 +1,4 @@
-use Rattle.std.proofs.Common.{◌≡◌, ℕ, zero, suc, ◌-◌, ◌<◌, ◌≤◌, List, [], ◌∷◌, ◌++◌, length, get_or, take, drop, Some, sym, ap, ◌∙◌, arith}
+use Rattle.std.proofs.Common.{◌≡◌, ℕ, zero, suc, ◌-◌, ◌<◌, ◌≤◌, List, [], ◌∷◌, ◌++◌, length, get_or, take, drop, Some, sym, ap, arith}
 use Rattle.std.proofs.lemmas.List.{append_assoc, length-take-le, take_at}
 use Rattle.std.proofs.lemmas.Bool.{le-ltb}
 use Rattle.dated.specs.Row.{first_of, without_first}

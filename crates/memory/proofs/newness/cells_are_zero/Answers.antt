@@ -1,6 +1,6 @@
-use Rattle.std.proofs.Common.{◌≡◌, ℕ, ◌<◌, true, false, eqb, length, sym, refl, ap, ◌∙◌, subst, arith, below_more}
+use Rattle.std.proofs.Common.{◌≡◌, ℕ, eqb, sym, ap, ◌∙◌, arith, below_more}
 use Rattle.std.proofs.lemmas.Bool.{ne_eqb, eq-eqb}
-use Rattle.memory.specs.Meaning.{Meaning, cell, nothing_waits}
+use Rattle.memory.specs.Meaning.{Meaning, cell}
 use Rattle.memory.proofs.Emptiness.{all_of_from, all_of_fails, idle_load, load_accepted}
 use Rattle.memory.proofs.newness.cells_are_zero.Goals as goal
 

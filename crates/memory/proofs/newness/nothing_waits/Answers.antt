@@ -1,7 +1,7 @@
-use Rattle.std.proofs.Common.{◌≡◌, ℕ, ◌<◌, eqb, List, [], length, sym, refl, ◌∙◌, arith, below_more}
+use Rattle.std.proofs.Common.{◌≡◌, ◌<◌, eqb, List, [], length, sym, arith, below_more}
 use Rattle.std.proofs.lemmas.Bool.{ne_eqb, eq-eqb}
 use Rattle.memory.specs.declared.write.Write.{Write}
-use Rattle.memory.specs.Meaning.{Meaning, waiting_count, queue}
+use Rattle.memory.specs.Meaning.{waiting_count}
 use Rattle.memory.proofs.Emptiness.{all_of_from, all_of_fails}
 use Rattle.memory.proofs.newness.nothing_waits.Goals as goal
 
