@@ -4,8 +4,8 @@
 #   long:     one file of 2,000,001 lines, where every call after the first 8,000 is refused
 set -e
 cd "$(dirname "$0")/.."
-rt check marker > /dev/null
-marker=target/bin/marker
+(cd crates/marker && rt run < /dev/null > /dev/null)
+marker=crates/marker/out/marker
 folder=target/bench
 mkdir -p "$folder"
 

@@ -158,10 +158,10 @@ fn reads_long_numbers(rt: HostRuntime) -> Result<(), Fail> {
 
 #[test]
 fn prints_lines(rt: HostRuntime) {
-    assert!(rt; Line::print(0, 0).as_slice() == b"0 0\n");
-    assert!(rt; Line::print(2, 10).as_slice() == b"2 10\n");
-    assert!(rt; Line::print(38, 0).as_slice() == b"38 0\n");
-    assert!(rt; Line::print(255, 100).as_slice() == b"255 100\n");
+    assert!(rt; Line::print(0, 0).as_slice() == b"0 0\n".as_slice());
+    assert!(rt; Line::print(2, 10).as_slice() == b"2 10\n".as_slice());
+    assert!(rt; Line::print(38, 0).as_slice() == b"38 0\n".as_slice());
+    assert!(rt; Line::print(255, 100).as_slice() == b"255 100\n".as_slice());
     let largest = Line::print(u64::MAX, 10000000000000000000);
-    assert!(rt; largest.as_slice() == b"18446744073709551615 10000000000000000000\n");
+    assert!(rt; largest.as_slice() == b"18446744073709551615 10000000000000000000\n".as_slice());
 }
