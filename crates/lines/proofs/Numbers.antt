@@ -3,7 +3,7 @@ use Rattle.std.proofs.Common.{◌≡◌, ℕ, suc, ◌+◌, ◌-◌, ◌*◌, �
 use native.Mathlib.Nat.{pow-le-pow_right}
 use Rattle.std.proofs.lemmas.List.{at_drop_more}
 use Rattle.std.proofs.lemmas.Bool.{and_from, and_left, and_right, cond-false, le-leb, lt-leb}
-use Rattle.lines.specs.Text.{digit, digits, value_of, number_in}
+use Rattle.lines.specs.Text.{digit, digits, value_of}
 
 pub digit_within : (c : ℕ) → 48 ≤ c → c ≤ 57 → digit c ≡ true
 digit_within c low high = and_from (leb 48 c) (leb c 57) (le-leb 48 c low) (le-leb c 57 high)

@@ -1,5 +1,5 @@
 -- The first line of a listing. Assumes nothing.
-use Rattle.std.proofs.Common.{◌≡◌, ℕ, min, true, false, ◌&&◌, eqb, List, Some, None, Option, sym, refl, ap, ◌∙◌}
+use Rattle.std.proofs.Common.{◌≡◌, ℕ, min, true, false, ◌&&◌, eqb, List, Some, None, Option, refl}
 use Rattle.memory.specs.Checks.{limit_in_range}
 use Rattle.memory.specs.Meaning.{Meaning, fresh}
 use Rattle.protocol.specs.declared.answer.Answer.{Answer}
@@ -8,7 +8,7 @@ use Rattle.protocol.specs.Calls.{Performs, begun_new}
 use Rattle.protocol.specs.Tables.{State}
 use Rattle.lines.specs.declared.head.Head.{Head}
 use Rattle.listing.specs.Made.{Opened}
-use Rattle.listing.specs.Session.{Session, First, Opens, memory_in, never, running, shown, unmade}
+use Rattle.listing.specs.Session.{Session, First, memory_in, never, running, shown, unmade}
 
 -- the memory that the numbers name
 pub names_held : (h : Head) → h.memory ≡ 1 → (eqb h.limit 0 && limit_in_range h.bound) ≡ true → memory_in h ≡ Some (fresh h.bound false)

@@ -1,5 +1,5 @@
 -- From the tables' calls to the machine's. Assumes nothing.
-use Rattle.std.proofs.Common.{◌≡◌, ℕ, Bool, true, false, cond, Some, None, sym, refl, ap, arith}
+use Rattle.std.proofs.Common.{◌≡◌, ℕ, Bool, true, false, cond, Some, None, refl, ap, arith}
 use Rattle.memory.specs.Checks.{first_no}
 use Rattle.memory.specs.Meaning.{Meaning, is_new}
 use Rattle.protocol.specs.declared.answer.Answer.{Answer}

@@ -59,3 +59,6 @@ onward s s' (steps {t} {x} {a} {k} e f w) = meets_onward t (request (here x s.me
 
 pub bound_stays : (s s' : State) {c : Call} {a : Answer} {k : Told} → Trans s s' c a k → s'.memory.bound ≡ s.memory.bound
 bound_stays s s' x = (onward s s' x).bound
+
+pub clock_grows : (s s' : State) {c : Call} {a : Answer} {k : Told} → Trans s s' c a k → s.memory.clock ≤ s'.memory.clock
+clock_grows s s' x = (onward s s' x).clock

@@ -21,6 +21,10 @@ use Rattle.protocol.proofs.PathLemmas.{last_store, path_landed, path_copy, after
 use Rattle.protocol.proofs.Paths.{Slot, put, last_of, Path, PathAfter}
 pub use Rattle.protocol.proofs.GuardedParts.{guarded_same}
 
+-- A guarded node is in use.
+pub guarded_used : (z : Settings) (a : GuardState) → Guarded z a → (t i : ℕ) → 0 < a.guard t i → InUse (a.node (a.guard t i))
+guarded_used z a g = g.used
+
 -- The memory alone.
 
 pub guarded_ticks : (z : Settings) (a a' : GuardState) → TicksOn a a' → Still a a' → Guarded z a → Guarded z a'

@@ -23,6 +23,9 @@ pub last_store : (view : ℕ → ℕ) (ws : List Slot) (w : Slot) (i : ℕ) → 
 last_store view [] w i = refl
 last_store view (v ∷ ws) w i = last_store (put view v) ws w i
 
+pub last_landed : (view : ℕ → ℕ) (w : Slot) (ws : List Slot) (i : ℕ) → last_of (put view w) ws i ≡ last_of view (w ∷ ws) i
+last_landed view w ws i = refl
+
 pub last_path : (view : ℕ → ℕ) (ws : List Slot) (lo i n : ℕ) → Path view ws lo i n → last_of view ws i ≡ n
 last_path view [] lo i n (le, e) = e
 last_path view (w ∷ ws) lo i n (j, a, b, e, p) = last_path (put view w) ws j i n p

@@ -52,7 +52,7 @@ pub record FlagsWhole (p : Point) : Type 0 where
 abbrev pub FlagsAreWhole : Type 0
 FlagsAreWhole = (h : List Event) (s : State) (x : Tables) → Explains h s → s.tables ≡ Some x → (t : ℕ) → FlagsWhole (thread_of x t).point
 
--- AllByRecursion that is promised of a history over a memory with bound b, for nodes, lock, lists and numbers.
+-- All that is promised of a history over a memory with bound b, for nodes, lock, lists and numbers.
 pub record AllGuarantees (b : ℕ) (h : List Event) : Type 0 where
   pub guarantees : Guarantees b h
   -- a taken or removed node is its thread's

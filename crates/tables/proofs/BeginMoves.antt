@@ -1,5 +1,5 @@
 -- The checks of a begin, in their order, and what it leaves. Assumes nothing.
-use Rattle.std.proofs.Common.{◌≡◌, ℕ, ◌+◌, ◌<◌, ◌≤◌, true, false, List, [], ◌∷◌, map, length, get_or, take, set, Some, None, Option, sym, refl, ap, ◌∙◌, subst}
+use Rattle.std.proofs.Common.{◌≡◌, ℕ, ◌+◌, ◌<◌, ◌≤◌, true, false, List, [], ◌∷◌, map, get_or, take, set, Some, None, Option, sym, refl, ap, ◌∙◌}
 use Rattle.std.proofs.lemmas.Bool.{and_from, lt-ltb, le-ltb}
 use Rattle.memory.specs.Checks.{Check, check, first_no}
 use Rattle.memory.specs.Meaning.{Meaning}
@@ -19,7 +19,7 @@ use Rattle.protocol.proofs.CallsKept.{performed}
 use Rattle.protocol.proofs.Passed.{BeginPassed, begin_passed, rest_passed, calls_left as few-left}
 use Rattle.tables.specs.declared.tables.Tables.{Tables}
 use Rattle.tables.specs.declared.thread.Thread.{Thread}
-use Rattle.tables.specs.Rows.{list_of, loaded_of, states_of}
+use Rattle.tables.specs.Rows.{states_of}
 use Rattle.tables.specs.State.{running, tables_of}
 use Rattle.tables.specs.Threads.{at, begins, fitting, row_of}
 use Rattle.tables.proofs.Admission.{calls_left, has_thread}

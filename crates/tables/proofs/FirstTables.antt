@@ -1,5 +1,5 @@
 -- The tables of a machine that has just been set up. Assumes nothing.
-use Rattle.std.proofs.Common.{◌≡◌, ◌+◌, ◌≤◌, List, take, replicate, sym, refl, ap, ◌∙◌}
+use Rattle.std.proofs.Common.{◌≡◌, ◌+◌, ◌≤◌, List, take, replicate, refl}
 use Rattle.std.proofs.lemmas.List.{take-replicate}
 use Rattle.protocol.specs.declared.node.NodeState.{NodeState}
 use Rattle.protocol.specs.declared.node.NodeState.TheVariants.{Free}

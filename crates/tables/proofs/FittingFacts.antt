@@ -1,5 +1,5 @@
 -- When a thread's row fits the settings. Assumes nothing.
-use Rattle.std.proofs.Common.{◌≡◌, ℕ, ◌+◌, ◌<◌, true, cond, ltb, List, [], ◌∷◌, ◌++◌, length, Some, sym, refl, ap, ◌∙◌, arith, length-append}
+use Rattle.std.proofs.Common.{◌≡◌, ℕ, ◌+◌, ◌<◌, true, List, [], ◌∷◌, ◌++◌, length, Some, length-append}
 use Rattle.std.proofs.lemmas.Bool.{lt-ltb}
 use Rattle.protocol.specs.declared.operation.Operation.TheVariants.{Reclaim}
 use Rattle.protocol.specs.declared.settings.Settings.{Settings}

@@ -1,5 +1,5 @@
 -- A step of a thread, from what the request, the memory and the thread's advance give. Assumes nothing.
-use Rattle.std.proofs.Common.{◌≡◌, ℕ, ◌+◌, ◌<◌, false, List, map, get_or, take, set, Some, None, sym, refl, ap, ◌∙◌, subst}
+use Rattle.std.proofs.Common.{◌≡◌, ℕ, ◌+◌, ◌<◌, false, List, map, get_or, take, set, Some, None, sym, ap, ◌∙◌, subst}
 use Rattle.memory.specs.Checks.{first_no}
 use Rattle.memory.specs.Meaning.{Meaning}
 use Rattle.protocol.specs.declared.answer.Answer.{Answer}
@@ -8,8 +8,8 @@ use Rattle.protocol.specs.declared.answer.Refusal.{Refusal}
 use Rattle.protocol.specs.declared.call.Call.TheVariants.{Step}
 use Rattle.protocol.specs.declared.node.NodeState.{NodeState}
 use Rattle.protocol.specs.Calls.{Performs}
-use Rattle.protocol.specs.Steps.{Here, Outcome, Request, Told, request, after}
-use Rattle.protocol.specs.Tables.{Thread as Row, doing_at}
+use Rattle.protocol.specs.Steps.{Here, Request, Told, request, after}
+use Rattle.protocol.specs.Tables.{doing_at}
 use Rattle.protocol.specs.Transition.{checks_of, request_checks, is_idle, Meets}
 use Rattle.tables.specs.declared.rows.NodeStates.{NodeStates}
 use Rattle.tables.specs.declared.tables.Tables.{Tables}

@@ -1,4 +1,4 @@
-use Rattle.std.proofs.Common.{sym, refl, ap, ◌∙◌}
+use Rattle.std.proofs.Common.{sym, ap, ◌∙◌}
 use Rattle.held.specs.Held.{held}
 use Rattle.machine.specs.State.{state}
 use Rattle.lines.specs.Input.{head_in}

@@ -1,6 +1,5 @@
-use Rattle.std.proofs.Common.{◌≡◌, sym, ap, ◌∙◌, arith, rules}
-use Rattle.memory.specs.Meaning.{Meaning}
-use Rattle.protocol.specs.Calls.{Runs, begun_new}
+use Rattle.std.proofs.Common.{sym, ap, ◌∙◌, arith, rules}
+use Rattle.protocol.specs.Calls.{begun_new}
 use Rattle.protocol.specs.Tables.{State}
 use Rattle.machine.specs.State.{state}
 use Rattle.protocol.proofs.CallsKept.{runs_none, runs_more, runs_all}

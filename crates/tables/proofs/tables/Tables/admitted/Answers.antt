@@ -1,4 +1,4 @@
-use Rattle.std.proofs.Common.{◌≡◌, ◌<◌, get_or, sym, ap, ◌∙◌, arith, length-set}
+use Rattle.std.proofs.Common.{sym, arith}
 use Rattle.protocol.specs.Begin.{named}
 use Rattle.protocol.specs.Transition.{begin_asks}
 use Rattle.tables.specs.State.{tables_of}

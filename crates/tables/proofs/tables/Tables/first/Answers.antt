@@ -1,4 +1,3 @@
-use Rattle.std.proofs.Common.{arith}
 use Rattle.tables.specs.Rows.{states_of}
 use Rattle.tables.specs.Threads.{row_of}
 use Rattle.tables.proofs.FirstTables.{first_tables_lem}

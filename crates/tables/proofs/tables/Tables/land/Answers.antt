@@ -1,4 +1,4 @@
-use Rattle.std.proofs.Common.{◌<◌, arith}
+use Rattle.std.proofs.Common.{arith}
 use Rattle.protocol.specs.Transition.{land_asks}
 use Rattle.tables.specs.State.{tables_of}
 use Rattle.tables.proofs.Admission.{refused, calls_used_up}

@@ -1,10 +1,9 @@
-use Rattle.std.proofs.Common.{◌≡◌, ◌<◌, length, get_or, Some, sym, refl, ap, ◌∙◌, arith, length-set}
+use Rattle.std.proofs.Common.{◌<◌, length, get_or, Some, sym, ap, ◌∙◌, arith, length-set}
 use Rattle.std.proofs.lemmas.Result.{err_from_is_err_and}
 use Rattle.protocol.specs.Plain.{request_of, told_of}
 use Rattle.protocol.specs.Tables.{thread_of}
 use Rattle.protocol.specs.Transition.{step_asks}
 use Rattle.protocol.proofs.PlacedMemory.{ranges}
-use Rattle.tables.specs.Asked.{InCells}
 use Rattle.tables.specs.Rows.{list_of, loaded_of, states_of}
 use Rattle.tables.specs.State.{tables_of}
 use Rattle.tables.specs.Threads.{row_of}
