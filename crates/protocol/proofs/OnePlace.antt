@@ -49,12 +49,9 @@ remove_point q e = go (node_case q)
     go (calm c) = absurd (both_ways (is_remove 3 (doing_at q)) c.no_remove e)
 
 -- once the machine is set up
-module _ (b : ℕ) (h : List Event) (x : Tables) (m : Meaning) (p : Placed x m) (work : AtWork x m) (shown : Shown b h x) (roots : (r : ℕ) → root_in h r ≡ root_or (Some x) m r) (n : ℕ) (real : 0 < n) where
+module _ (b : ℕ) (h : List Event) (x : Tables) (m : Meaning) (p : Placed x m) (shown : Shown b h x) (roots : (r : ℕ) → root_in h r ≡ root_or (Some x) m r) (n : ℕ) (real : 0 < n) where
   place_taken : (t r : ℕ) → doing_in h t ≡ busy (Publish r n) 1 → state_in b h n ≡ Taken t
   place_taken t r e = sym (shown.shows.nodes n) ∙ p.taking t r n (publish_point r n (thread_of x t).point (shown.shows.doing t ∙ e))
-
-  place_taking : (t : ℕ) → state_in b h n ≡ Taken t → (r : ℕ) × (doing_in h t ≡ busy (Publish r n) 1)
-  place_taking t e = let w = work.taken t n (shown.shows.nodes n ∙ e) in (w.0, sym (shown.shows.doing t) ∙ ap doing_at w.1)
 
   place_published : (r : ℕ) → root_in h r ≡ n → state_in b h n ≡ Published r
   place_published r e = sym (shown.shows.nodes n) ∙ at (cases_lt r x.settings.roots)
@@ -83,11 +80,6 @@ module _ (b : ℕ) (h : List Event) (x : Tables) (m : Meaning) (p : Placed x m) 
           let same : q.node ≡ n = sym k ∙ f in
           sym (shown.shows.nodes n) ∙ rw same at (p.removing t q.root q.node q.at)
 
-  place_removing : (t : ℕ) → state_in b h n ≡ Removed t → (is_remove 3 (doing_in h t) ≡ true) × (removing_in h t ≡ n)
-  place_removing t e =
-      let w = work.removed t n (shown.shows.nodes n ∙ e) in
-      (ap (is_remove 3) (sym (shown.shows.doing t) ∙ ap doing_at w.1), rw w.1 at (shown.known t))
-
   place_listed : (t : ℕ) → names n (list_in b h t) ≡ cond (retired_in (state_in b h n) t) 1 0
   place_listed t = rw (sym (shown.shows.lists t), sym (shown.shows.nodes n)) (p.listed n t real)
 
@@ -102,6 +94,16 @@ module _ (b : ℕ) (h : List Event) (x : Tables) (m : Meaning) (p : Placed x m) 
         listed = place_listed;
         counts = k;
       }
+
+-- The other way round, from what the threads are at work on.
+module _ (b : ℕ) (h : List Event) (x : Tables) (m : Meaning) (work : AtWork x m) (shown : Shown b h x) (n : ℕ) where
+  place_taking : (t : ℕ) → state_in b h n ≡ Taken t → (r : ℕ) × (doing_in h t ≡ busy (Publish r n) 1)
+  place_taking t e = let w = work.taken t n (shown.shows.nodes n ∙ e) in (w.0, sym (shown.shows.doing t) ∙ ap doing_at w.1)
+
+  place_removing : (t : ℕ) → state_in b h n ≡ Removed t → (is_remove 3 (doing_in h t) ≡ true) × (removing_in h t ≡ n)
+  place_removing t e =
+      let w = work.removed t n (shown.shows.nodes n ∙ e) in
+      (ap (is_remove 3) (sym (shown.shows.doing t) ∙ ap doing_at w.1), rw w.1 at (shown.known t))
 
   pub has_its_thread : HasItsThread b h n
   has_its_thread = record { taking = place_taking; removing = place_removing }
@@ -148,7 +150,7 @@ every_node_in_one_place h s w n real = go s.tables refl
     go None e = unset_one_place s.memory.bound h ((explains_reached h s w).before e) (λ r. rw e at (explains_roots h s w r)) n real (free_in_place h s w n) (explains_counts h s w n real)
     go (Some x) e =
         let now = explains_reached h s w in
-        in_one_place s.memory.bound h x s.memory (now.inv.placed x e) (explains_at_work h s w x e) (now.shown x e) (λ r. rw e at (explains_roots h s w r)) n real (free_in_place h s w n) (explains_counts h s w n real)
+        in_one_place s.memory.bound h x s.memory (now.inv.placed x e) (now.shown x e) (λ r. rw e at (explains_roots h s w r)) n real (free_in_place h s w n) (explains_counts h s w n real)
 
 pub every_node_has_its_thread : EveryNodeHasItsThread
 every_node_has_its_thread h s w n real = go s.tables refl
@@ -157,4 +159,4 @@ every_node_has_its_thread h s w n real = go s.tables refl
     go None e = unset_has_no_thread s.memory.bound h ((explains_reached h s w).before e) n
     go (Some x) e =
         let now = explains_reached h s w in
-        has_its_thread s.memory.bound h x s.memory (now.inv.placed x e) (explains_at_work h s w x e) (now.shown x e) (λ r. rw e at (explains_roots h s w r)) n real
+        has_its_thread s.memory.bound h x s.memory (explains_at_work h s w x e) (now.shown x e) n
