@@ -4,7 +4,7 @@
 #   long:     one file of 2,000,001 lines, where every call after the first 8,000 is refused
 set -e
 cd "$(dirname "$0")/.."
-(cd crates/marker && rt run < /dev/null > /dev/null)
+(cd crates/marker && rt run < /dev/null > /dev/null 2>&1)
 marker=crates/marker/out/marker
 folder=target/bench
 mkdir -p "$folder"

@@ -1,7 +1,8 @@
 #!/usr/bin/env python3
 """Respells the repository's own definitions and lemmas, once, after the kit's script has turned the tree.
 
-usage: python3 tools/respell.py [--dry]      at the top of the repository
+usage: python3 tools/respell.py [--dry] [--anyway]      at the top of the repository; it stops where names fall together, unless told
+       to go on
 
 A definition, field, constructor or lemma is in snake case (`waitingCount` becomes `waiting_count`, `landed-sound` becomes
 `landed_sound`); a fact whose name begins with a capital is in upper camel case (`At-most-one-inside` becomes `AtMostOneInside`).
@@ -16,8 +17,6 @@ import sys
 GOALS = ("Answers.antt", "Invariants.antt", "Proof.antt", "Choices.antt")
 DECLARED = re.compile(r"^[ ]*(?:abbrev |unfoldable |pub |data |record |axiom )*([A-Za-z][\w'-]*)[ ]*(?:\{[^{}]*\}[ ]*|\((?:[^()]|\([^()]*\))*\)[ ]*)*:[ \n]", re.M)
 TOKEN = re.compile(r"[A-Za-z_◌ℕℤ][\w'◌ℕℤ+-]*")
-# words of the library with which a lemma's name may begin, as they are spelled now
-LIBRARY = {"length": "length", "getD": "get_or", "set": "set", "take": "take", "append": "append"}
 # names that would fall together with another name, or that the rules leave unclear
 OWN = {
     "getD-nils": "get_or-nils",
