@@ -6,8 +6,8 @@ usage: python3 tools/respell.py [--dry] [--anyway]      at the top of the reposi
 
 A definition, field, constructor or lemma is in snake case (`waitingCount` becomes `waiting_count`, `landed-sound` becomes
 `landed_sound`); a fact whose name begins with a capital is in upper camel case (`At-most-one-inside` becomes `AtMostOneInside`).
-A dash stays where the name begins with a word of the library, as in `length-freeing`. Names that stand only in the files of a
-function's proof (Answers.antt, Invariants.antt, Proof.antt) are goals, and keep their spelling. The text of code, strings, inputs
+A dash stays where the name begins with a word of the library, as in `length-freeing`. Goals, which stand in the files of a function's
+proof (Answers.antt, Invariants.antt, Proof.antt), keep their spelling. The text of code, strings, inputs
 and outputs is left alone: in .rt files only clauses and imports of definitions have such names.
 """
 import os
@@ -16,6 +16,9 @@ import sys
 
 GOALS = ("Answers.antt", "Invariants.antt", "Proof.antt", "Choices.antt")
 DECLARED = re.compile(r"^[ ]*(?:abbrev |unfoldable |pub |data |record |axiom )*([A-Za-z][\w'-]*)[ ]*(?:\{[^{}]*\}[ ]*|\((?:[^()]|\([^()]*\))*\)[ ]*)*:[ \n]", re.M)
+# a lemma that only one function's proof uses, and a name that an import gives
+HELPER = re.compile(r"^([A-Za-z][\w'-]*) : (?!goal\.)", re.M)
+ALIAS = re.compile(r" as ([a-z][\w'-]*)")
 TOKEN = re.compile(r"[A-Za-z_◌ℕℤ][\w'◌ℕℤ+-]*")
 # names that would fall together with another name, or that the rules leave unclear
 OWN = {
@@ -63,6 +66,8 @@ def camel(name):
 def respelled(name):
     if name in OWN:
         return OWN[name]
+    if name in OWN.values():
+        return name
     if name[0].isupper():
         return camel(name) if "-" in name else name
     if "-" in name or re.search(r"[A-Z]", name):
@@ -98,11 +103,13 @@ def main(argv):
         for line in text.splitlines():
             for t in TOKEN.findall(line[: code_only(line, os.path.splitext(p)[1])]):
                 taken.setdefault(t, p)
-        if p.endswith(".antt") and os.path.basename(p) not in GOALS:
-            for m in DECLARED.finditer(text):
-                new = respelled(m.group(1))
-                if new != m.group(1):
-                    names[m.group(1)] = new
+        if p.endswith(".antt"):
+            own = [m.group(1) for m in DECLARED.finditer(text)]
+            if os.path.basename(p) in GOALS and os.path.basename(os.path.dirname(p)) != "proofs":
+                own = HELPER.findall(text)
+            for name in own + ALIAS.findall(text):
+                if respelled(name) != name:
+                    names[name] = respelled(name)
     made = {}
     for old, new in sorted(names.items()):
         made.setdefault(new, []).append(old)

@@ -8,7 +8,7 @@ use Rattle.protocol.specs.History.{Event, doing_in, guard_in, inside_in, list_in
 use Rattle.protocol.specs.Questions.{ranged, shown, always, is_thread, is_hazard, is_node, guard_shown, guard_asked, node_shown, node_asked, retired_shown, retired_asked, is_inside_shown, is_inside_asked, doing_shown, doing_asked, accepted_shown, accepted_asked, settings_shown, first_below, inside_shown, inside_asked, hazard_of}
 use Rattle.protocol.specs.Steps.{guard_of}
 use Rattle.protocol.specs.Tables.{doing_at, Tables, State, thread_of, node_of}
-use Rattle.protocol.proofs.ShownKeeps.{tables_stand}
+use Rattle.protocol.proofs.AcceptedCalls.{tables_stand}
 
 -- any question whose answer the tables show
 shown_asked : {A : Type 0} (b : ℕ) (h : List Event) (x : Option Tables) (in_range : Settings → Bool) (answer : Tables → A) (a : A) → ShownBy b h x → ((y : Tables) → ShowsAll b h y → answer y ≡ a) → shown x in_range answer ≡ ranged (settings_in h) in_range a

@@ -16,7 +16,7 @@ use Rattle.protocol.specs.Steps.{Told, clock_told, value_told, done_told, Outcom
 use Rattle.protocol.specs.Tables.{Thread, Tables, State, thread_of, node_of, idle_thread, Point, idle, protect1, protect2, protect3, protect4, copy1, release1, publish1, remove1, remove2, remove3, reclaim1, reclaim2, reclaim3, owner_lock1, owner_lock2, owner_lock3, owner_lock4, owner_lock5, owner_unlock1, owner_unlock2, owner_unlock3, owner_unlock4, other_lock1, other_lock2, other_lock3, other_lock4, other_lock5, other_lock6, other_lock7, other_lock8, other_unlock1, other_unlock2, other_unlock3}
 use Rattle.protocol.specs.Transition.{Meets, here}
 use Rattle.protocol.proofs.FirstState.{same_all}
-use Rattle.protocol.proofs.Invariants.{FirstHolds, Kept, calls-keep, always}
+use Rattle.protocol.proofs.Invariants.{FirstHolds, Kept, calls_keep, always}
 use Rattle.protocol.proofs.LockPaths.{idle_is}
 use Rattle.protocol.proofs.Placed.{FitsAt, Placed}
 use Rattle.protocol.proofs.PlacedMoves.{plain_at, plain_publish, plain_remove}
@@ -216,4 +216,4 @@ work_kept =
     }
 
 pub explains_at_work : (h : List Event) (s : State) → Explains h s → (x : Tables) → s.tables ≡ Some x → AtWork x s.memory
-explains_at_work = always AtWork work_starts (calls-keep AtWork work_kept)
+explains_at_work = always AtWork work_starts (calls_keep AtWork work_kept)

@@ -9,7 +9,7 @@ use Rattle.protocol.specs.declared.settings.Settings.{Settings}
 use Rattle.protocol.specs.Guarantees.{Explains, AtMostOneInside}
 use Rattle.protocol.specs.History.{Event}
 use Rattle.protocol.specs.Tables.{Tables, State, thread_of, owner_lock3}
-use Rattle.protocol.proofs.Invariants.{FirstHolds, CallsKeep, settings-stay, always}
+use Rattle.protocol.proofs.Invariants.{FirstHolds, CallsKeep, settings_stay, always}
 use Rattle.protocol.proofs.LockFacts.{who_owner}
 use Rattle.protocol.proofs.LockFirst.{first_untouched, set_up_first}
 use Rattle.protocol.proofs.LockPaths.{SmallEcho, lock_path}
@@ -129,7 +129,7 @@ lock_starts z m new sound range =
 lock_stays : CallsKeep LockHolds
 lock_stays s s' c a k x x' w inv e e' i =
     let path = lock_path s s' x x' w inv e e' (small_echo x s.memory i) in
-    subst (λ (z : Settings). LockInv z (lock_state x' s'.memory)) (sym (settings-stay s s' x x' w e e'))
+    subst (λ (z : Settings). LockInv z (lock_state x' s'.memory)) (sym (settings_stay s s' x x' w e e'))
     (path_keeps x.settings (lock_state x' s'.memory) (lock_state x s.memory) path i)
 
 pub explains_locked : (h : List Event) (s : State) → Explains h s → (x : Tables) → s.tables ≡ Some x → LockInv x.settings (lock_state x s.memory)

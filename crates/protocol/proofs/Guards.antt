@@ -19,7 +19,7 @@ use Rattle.protocol.proofs.GuardMemory.{Owns}
 use Rattle.protocol.proofs.GuardOwns.{owns_keeps, owns_first}
 use Rattle.protocol.proofs.GuardPaths.{guard_path, guard_first, first_idle}
 use Rattle.protocol.proofs.GuardView.{GuardState, guard_state, SameLists, Lists, Acts, GuardPath, plain, protects2, protects3, protects4, copies, releases, takes, publishes, occupied, removes, retires, scans1, scans2, sweeps, rests, lands, ticks, acts}
-use Rattle.protocol.proofs.Invariants.{FirstHolds, CallsKeep, settings-stay, always}
+use Rattle.protocol.proofs.Invariants.{FirstHolds, CallsKeep, settings_stay, always}
 use Rattle.protocol.proofs.LateSweeps.{named_once}
 use Rattle.protocol.proofs.ListDates.{Ordered, empty_ordered, path_ordered}
 use Rattle.protocol.proofs.Pigeons.{names_kept}
@@ -92,7 +92,7 @@ guards_stay : CallsKeep GuardInv
 guards_stay s s' c a k x x' w inv e e' i =
     let path = guard_path s s' x x' w inv i.owns e e' i.guarded.ready in
     let facts : Facts x.settings (guard_state x s.memory) = record { once = λ t n. named_once x s.memory t (inv.placed x e) n } in
-    let same = sym (settings-stay s s' x x' w e e') in
+    let same = sym (settings_stay s s' x x' w e e') in
     record {
       guarded = subst (λ (z : Settings). Guarded z (guard_state x' s'.memory)) same (path_keeps x.settings (guard_state x' s'.memory) (guard_state x s.memory) path facts i.guarded);
       owns = subst (λ (z : Settings). Owns z s'.memory) same (owns_keeps s s' x x' w inv e e' i.owns);

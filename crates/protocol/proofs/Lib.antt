@@ -1,3 +1,4 @@
+pub mod AcceptedCalls
 pub mod Asked
 pub mod AtWork
 pub mod BoundStays

@@ -18,7 +18,7 @@ use Rattle.protocol.specs.Tables.{Point, Tables, State, doing_at, thread_of, idl
 use Rattle.protocol.specs.Transition.{Trans, refuses, sets_up, ticks, lands, begins, steps, is_idle, begin_asks, step_asks, checks_of, here, counted, stepped}
 use Rattle.protocol.proofs.LockMemory.{same_refl, still_refl, landed_then, lands_then, ticked_on}
 use Rattle.protocol.proofs.LockSteps.{goes, step_path}
-use Rattle.protocol.proofs.LockView.{sight_of, lock_state, Goes, Acts, node, begins_owner_lock, begins_owner_unlock, begins_other_lock, begins_other_unlock, Still, LockPath, rests, ticks as ticksOn, acts}
+use Rattle.protocol.proofs.LockView.{sight_of, lock_state, Goes, Acts, node, begins_owner_lock, begins_owner_unlock, begins_other_lock, begins_other_unlock, Still, LockPath, rests, ticks as ticks_on, acts}
 use Rattle.protocol.proofs.Passed.{rest_passed, calls_left, set_up_passed, begin_passed, step_passed}
 use Rattle.protocol.proofs.Placed.{Inv}
 
@@ -105,7 +105,7 @@ tick_path : (x : Tables) (m m' : Meaning) → Sound m → Ticked Lands m m' → 
 tick_path x m m' s w =
     let l = w.between in
     lands_then x (lock_state (counted x) m') w.lands s
-    (ticksOn (lock_state (counted x) m') (rw w.is (ticked_on x.settings l w.none_due)) (still_counted x l m')
+    (ticks_on (lock_state (counted x) m') (rw w.is (ticked_on x.settings l w.none_due)) (still_counted x l m')
     (rests (same_refl (sight_of x.settings m')) (still_refl (counted x) m' m')))
 
 land_path : (x : Tables) (m m' : Meaning) (t : ℕ) → Sound m → Lands (landed t m) m' → LockPath x.settings (lock_state (counted x) m') (lock_state x m)

@@ -23,12 +23,13 @@ use Rattle.protocol.specs.Tables.{Tables, State, thread_of, node_of, Point, idle
 use Rattle.protocol.specs.Transition.{Meets, Trans, refuses, sets_up, ticks, lands, begins, steps, here, step_asks}
 use Rattle.protocol.proofs.Guards.{GuardInv, explains_guarded}
 use Rattle.protocol.proofs.GuardSteps.{published_at}
-use Rattle.protocol.proofs.Invariants.{Kept, calls-keep, always}
+use Rattle.protocol.proofs.AcceptedCalls.{explains_counted}
+use Rattle.protocol.proofs.Invariants.{Kept, calls_keep, always}
 use Rattle.protocol.proofs.LateSweeps.{named_once}
 use Rattle.protocol.proofs.Passed.{rest_passed, calls_left, step_passed}
 use Rattle.protocol.proofs.Pigeons.{is_in, pigeons}
 use Rattle.protocol.proofs.Placed.{FitsAt, Placed}
-use Rattle.protocol.proofs.PlacedMemory.{ranges}
+use Rattle.protocol.proofs.PlacedMemory.{nodes_high}
 use Rattle.protocol.proofs.PlacedNodes.{in_range_lem}
 use Rattle.protocol.proofs.ShownKeeps.{explains_reached}
 use Rattle.protocol.proofs.SmallNumbers.{limit, told_small, explains_small}
@@ -75,7 +76,7 @@ in_up_to n (suc k) le = elim (cases_eq n (suc k)) [ inl e ↦ or_left (eqb (suc 
 
 module _ (x : Tables) (m : Meaning) (p : Placed x m) (g : GuardInv x m) where
   node_small : (n : ℕ) → (node_of x n ≡ Free → ⊥) → n ≤ 64
-  node_small n used = let lt = in_range_lem x.nodes n used in let e = p.shape.nodes in let f = (ranges x.settings p.shape.range).nodes in omega arith
+  node_small n used = let lt = in_range_lem x.nodes n used in let e = p.shape.nodes in let f = nodes_high x.settings p.shape.range in omega arith
 
   guard_small : (t i : ℕ) → guard_of (thread_of x t) i ≤ 64
   guard_small t i = elim (cases_lt 0 (guard_of (thread_of x t) i)) [ inl pos ↦ node_small (guard_of (thread_of x t) i) (λ e. rw e at (g.guarded.used t i pos)) | inr le ↦ omega arith ]
@@ -112,10 +113,10 @@ module _ (x : Tables) (m : Meaning) (p : Placed x m) (g : GuardInv x m) where
     value_small (protect4 r h) f w = omega arith
     value_small (copy1 i j) f w = omega (arith, guard_small t i)
     value_small (release1 i) f w = omega arith
-    value_small (publish1 r n) f w = let le = f.2 in let n64 = (ranges x.settings p.shape.range).nodes in cond_both (done_told k) _ _ Fine (λ _. omega arith) (λ _. omega arith)
+    value_small (publish1 r n) f w = let le = f.2 in let n64 = nodes_high x.settings p.shape.range in cond_both (done_told k) _ _ Fine (λ _. omega arith) (λ _. omega arith)
     value_small (remove1 r) f w = cond_both (eqb (value_told k) 0) _ _ Fine (λ _. omega arith) (λ _. omega arith)
     value_small (remove2 r n) f w = cond_both (done_told k) _ _ Fine (λ _. omega arith) (λ _. omega arith)
-    value_small (remove3 r n) f w = let le = f.2 in let n64 = (ranges x.settings p.shape.range).nodes in omega arith
+    value_small (remove3 r n) f w = let le = f.2 in let n64 = nodes_high x.settings p.shape.range in omega arith
     value_small reclaim1 f w = omega arith
     value_small (reclaim2 now seen) f w = cond_both (ltb (length seen + 1) (hazard_cells x.settings)) _ _ Fine (λ _. omega arith) (λ _. omega arith)
     value_small (reclaim3 now seen) f w = omega (arith, freed_small now seen)
@@ -179,14 +180,14 @@ few_kept_lem =
     }
 
 tables_few : (h : List Event) (s : State) → Explains h s → (x : Tables) → s.tables ≡ Some x → x.accepted ≤ 8000
-tables_few = always Few (λ z m new sound range. omega arith) (calls-keep Few few_kept_lem)
+tables_few = always Few (λ z m new sound range. omega arith) (calls_keep Few few_kept_lem)
 
 explains_few : (h : List Event) (s : State) → Explains h s → accepted_in h ≤ 8000
 explains_few h s led = go s.tables refl
   where
     go : (o : Option Tables) → s.tables ≡ o → accepted_in h ≤ 8000
-    go None e = rw ((explains_reached h s led).before e).accepted (omega arith)
-    go (Some x) e = rw (sym ((explains_reached h s led).shown x e).accepted) (tables_few h s led x e)
+    go None e = let zero : accepted_in h ≡ 0 = rw e at (explains_counted h s led) in rw zero (omega arith)
+    go (Some x) e = let count : x.accepted ≡ accepted_in h = rw e at (explains_counted h s led) in rw (sym count) (tables_few h s led x e)
 
 -- The theorem.
 

@@ -52,7 +52,6 @@ pub record BeginPassed (t : ℕ) (o : Operation) (x : Tables) : Type 0 where
   pub idle : is_idle (doing_at (thread_of x t).point) ≡ true
   pub fits : fits x.settings o ≡ true
   pub ready : ready x (thread_of x t) o ≡ true
-  pub room : roomy x (thread_of x t) o ≡ true
   pub sided : sided t (thread_of x t) o ≡ true
 
 pub begin_passed : (t : ℕ) (o : Operation) (x : Tables) → first_no (begin_asks t (Some o) x) ≡ None → BeginPassed t o x
@@ -63,9 +62,12 @@ begin_passed t o x e =
       idle = p.1.0;
       fits = p.1.1.0;
       ready = p.1.1.1.0;
-      room = p.1.1.1.1.0;
       sided = p.1.1.1.1.1.0;
     }
+
+-- a remove has a place in its list
+pub begin_room : (t : ℕ) (o : Operation) (x : Tables) → first_no (begin_asks t (Some o) x) ≡ None → roomy x (thread_of x t) o ≡ true
+begin_room t o x e = (all_pass (begin_asks t (Some o) x) e).1.1.1.1.0
 
 pub record StepPassed (t : ℕ) (m : Meaning) (x : Tables) : Type 0 where
   pub thread : t < x.settings.threads

@@ -20,7 +20,6 @@ pub record Ranges (z : Settings) : Type 0 where
   pub threads : z.threads ≤ 8
   pub hazards : z.hazards ≤ 4
   pub roots : z.roots ≤ 8
-  pub nodes : z.nodes ≤ 64
   pub cells : hazard_cells z ≤ 32
   pub some : 0 < hazard_cells z
 
@@ -29,7 +28,6 @@ ranges z e =
     let a = and_parts (within 2 8 z.threads) (within 1 4 z.hazards && (within 1 8 z.roots && (within 1 64 z.nodes && (ltb (hazard_cells z) z.places && leb z.places 48)))) e in
     let b = and_parts (within 1 4 z.hazards) (within 1 8 z.roots && (within 1 64 z.nodes && (ltb (hazard_cells z) z.places && leb z.places 48))) a.1 in
     let c = and_parts (within 1 8 z.roots) (within 1 64 z.nodes && (ltb (hazard_cells z) z.places && leb z.places 48)) b.1 in
-    let d = and_parts (within 1 64 z.nodes) (ltb (hazard_cells z) z.places && leb z.places 48) c.1 in
     let t : z.threads ≤ 8 = leb-true z.threads 8 (and_parts (leb 2 z.threads) (leb z.threads 8) a.0).1 in
     let h : z.hazards ≤ 4 = leb-true z.hazards 4 (and_parts (leb 1 z.hazards) (leb z.hazards 4) b.0).1 in
     let u : 2 ≤ z.threads = leb-true 2 z.threads (and_parts (leb 2 z.threads) (leb z.threads 8) a.0).0 in
@@ -38,10 +36,17 @@ ranges z e =
       threads = t;
       hazards = h;
       roots = leb-true z.roots 8 (and_parts (leb 1 z.roots) (leb z.roots 8) c.0).1;
-      nodes = leb-true z.nodes 64 (and_parts (leb 1 z.nodes) (leb z.nodes 64) d.0).1;
       cells = mul-le-mul t h;
       some = let few : 2 * 1 ≤ z.threads * z.hazards = mul-le-mul u i in omega arith;
     }
+
+pub nodes_high : (z : Settings) → in_range z ≡ true → z.nodes ≤ 64
+nodes_high z e =
+    let a = and_parts (within 2 8 z.threads) (within 1 4 z.hazards && (within 1 8 z.roots && (within 1 64 z.nodes && (ltb (hazard_cells z) z.places && leb z.places 48)))) e in
+    let b = and_parts (within 1 4 z.hazards) (within 1 8 z.roots && (within 1 64 z.nodes && (ltb (hazard_cells z) z.places && leb z.places 48))) a.1 in
+    let c = and_parts (within 1 8 z.roots) (within 1 64 z.nodes && (ltb (hazard_cells z) z.places && leb z.places 48)) b.1 in
+    let d = and_parts (within 1 64 z.nodes) (ltb (hazard_cells z) z.places && leb z.places 48) c.1 in
+    leb-true z.nodes 64 (and_parts (leb 1 z.nodes) (leb z.nodes 64) d.0).1
 
 -- the hazard cells stand below the lock's cells
 pub hazard_below : (z : Settings) (t h : ℕ) → t < z.threads → h < z.hazards → hazard_cell z t h < lock_cell z

@@ -2,7 +2,7 @@
 use Rattle.std.proofs.Common.{◌≡◌, ℕ, false, List, [], None}
 use Rattle.protocol.specs.declared.node.NodeState.TheVariants.{Free}
 use Rattle.protocol.specs.Guarantees.{Shows}
-use Rattle.protocol.specs.History.{Event, doing_in, guard_in, inside_in, sweep_clock_in, loaded_in, removing_in, list_in, state_in, accepted_in, settings_in}
+use Rattle.protocol.specs.History.{Event, doing_in, guard_in, inside_in, sweep_clock_in, loaded_in, removing_in, list_in, state_in, settings_in}
 use Rattle.protocol.specs.Tables.{Point, Tables, nothing, thread_of, idle, protect1, protect2, protect3, protect4, copy1, release1, publish1, remove1, remove2, remove3, reclaim1, reclaim2, reclaim3, owner_lock1, owner_lock2, owner_lock3, owner_lock4, owner_lock5, owner_unlock1, owner_unlock2, owner_unlock3, owner_unlock4, other_lock1, other_lock2, other_lock3, other_lock4, other_lock5, other_lock6, other_lock7, other_lock8, other_unlock1, other_unlock2, other_unlock3}
 
 -- the clock and the cells of a sweep, and the node of a remove, are those that the history tells
@@ -44,7 +44,6 @@ KnownAt h t other_unlock3 = Unit {0}
 
 pub record Shown (b : ℕ) (h : List Event) (x : Tables) : Type 0 where
   pub shows : Shows b h x
-  pub accepted : x.accepted ≡ accepted_in h
   pub known : (t : ℕ) → KnownAt h t (thread_of x t).point
 
 -- what a history tells before set-up
@@ -55,4 +54,3 @@ pub record Untouched (h : List Event) : Type 0 where
   pub inside : (t : ℕ) → inside_in h t ≡ false
   pub nodes : (b n : ℕ) → state_in b h n ≡ Free
   pub settings : settings_in h ≡ None
-  pub accepted : accepted_in h ≡ 0

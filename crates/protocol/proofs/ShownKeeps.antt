@@ -14,9 +14,8 @@ use Rattle.protocol.specs.declared.operation.Operation.{Operation}
 use Rattle.protocol.specs.declared.operation.Operation.TheVariants.{Protect, Copy, Release, Publish, Remove, Reclaim, OwnerLock, OwnerUnlock, OtherLock, OtherUnlock}
 use Rattle.protocol.specs.declared.settings.Settings.{Settings}
 use Rattle.protocol.specs.Begin.{named, fits, takes, start_of, begun}
-use Rattle.protocol.specs.AllGuarantees.{ShownBy, TablesStandFromSetUp}
 use Rattle.protocol.specs.Guarantees.{Explains, TablesShowTheHistory}
-use Rattle.protocol.specs.History.{Event, event, taken_by, state_in, accepted_in, settings_in}
+use Rattle.protocol.specs.History.{Event, event, taken_by, state_in, settings_in}
 use Rattle.protocol.specs.Steps.{Told, done_told, Outcome, moved_to, request, after}
 use Rattle.protocol.specs.Tables.{Thread, Tables, State, remove2, idle_thread, thread_of, node_of, first_tables}
 use Rattle.protocol.specs.Transition.{Trans, refuses, sets_up, ticks, lands, begins, steps, begin_asks, step_asks, Meets, here, counted, stepped}
@@ -26,7 +25,7 @@ use Rattle.protocol.proofs.Passed.{rest_passed, set_up_passed, begin_passed, ste
 use Rattle.protocol.proofs.Placed.{FitsAt, Shaped, Placed, Inv}
 use Rattle.protocol.proofs.PlacedKeeps.{keeps}
 use Rattle.protocol.proofs.PlacedNodes.{in_range_lem}
-use Rattle.protocol.proofs.Refusals.{refused_doing, refused_guard, refused_inside, refused_list, refused_state, refused_settings, refused_accepted}
+use Rattle.protocol.proofs.Refusals.{refused_doing, refused_guard, refused_inside, refused_list, refused_state, refused_settings}
 use Rattle.protocol.proofs.Roots.{remove_was}
 use Rattle.protocol.proofs.Shown.{Shown, Untouched}
 use Rattle.protocol.proofs.StepRows.{get_d_set, Leaves, step_leaves}
@@ -37,11 +36,10 @@ use Rattle.protocol.proofs.ThreadRows.{Row, SameFor, row_same, same_refused, sam
 pub row_of : (b : ℕ) (h : List Event) (x : Tables) → Shown b h x → (t : ℕ) → Row b h t (thread_of x t)
 row_of b h x s t = record { doing = s.shows.doing t; guards = s.shows.guards t; lists = s.shows.lists t; inside = s.shows.inside t; known = s.known t }
 
-pub from_rows : (b : ℕ) (h : List Event) (x : Tables) → ((t : ℕ) → Row b h t (thread_of x t)) → ((n : ℕ) → node_of x n ≡ state_in b h n) → Some x.settings ≡ settings_in h → x.accepted ≡ accepted_in h → Shown b h x
-from_rows b h x rows nodes settings accepted =
+pub from_rows : (b : ℕ) (h : List Event) (x : Tables) → ((t : ℕ) → Row b h t (thread_of x t)) → ((n : ℕ) → node_of x n ≡ state_in b h n) → Some x.settings ≡ settings_in h → Shown b h x
+from_rows b h x rows nodes settings =
     record {
       shows = record { doing = λ t. (rows t).doing; guards = λ t. (rows t).guards; lists = λ t. (rows t).lists; inside = λ t. (rows t).inside; nodes = nodes; settings = settings };
-      accepted = accepted;
       known = λ t. (rows t).known;
     }
 
@@ -62,15 +60,14 @@ shown_refused b h x c e k s =
     (λ t. row_same b h (event c (Refused e) k ∷ h) t (thread_of x t) (same_refused h c e k t) (row_of b h x s t))
     (λ n. s.shows.nodes n ∙ sym (refused_state h c e k b n))
     (s.shows.settings ∙ sym (refused_settings h c e k))
-    (s.accepted ∙ sym (refused_accepted h c e k))
 
 shown_tick : (b : ℕ) (h : List Event) (x : Tables) (k : Told) → Shown b h x → Shown b (event Tick Done k ∷ h) (counted x)
 shown_tick b h x k s =
-    from_rows b (event Tick Done k ∷ h) (counted x) (λ t. row_same b h (event Tick Done k ∷ h) t (thread_of x t) (same_tick h Done k t) (row_of b h x s t)) s.shows.nodes s.shows.settings (ap (λ (n : ℕ). n + 1) s.accepted)
+    from_rows b (event Tick Done k ∷ h) (counted x) (λ t. row_same b h (event Tick Done k ∷ h) t (thread_of x t) (same_tick h Done k t) (row_of b h x s t)) s.shows.nodes s.shows.settings
 
 shown_land : (b : ℕ) (h : List Event) (x : Tables) (u : ℕ) (k : Told) → Shown b h x → Shown b (event (Land u) Done k ∷ h) (counted x)
 shown_land b h x u k s =
-    from_rows b (event (Land u) Done k ∷ h) (counted x) (λ t. row_same b h (event (Land u) Done k ∷ h) t (thread_of x t) (same_land h u Done k t) (row_of b h x s t)) s.shows.nodes s.shows.settings (ap (λ (n : ℕ). n + 1) s.accepted)
+    from_rows b (event (Land u) Done k ∷ h) (counted x) (λ t. row_same b h (event (Land u) Done k ∷ h) t (thread_of x t) (same_land h u Done k t) (row_of b h x s t)) s.shows.nodes s.shows.settings
 
 -- Set-up.
 
@@ -91,7 +88,6 @@ shown_set_up b h z k v =
     (replicated (Row b h t) z.threads t (idle_thread z.hazards) (idle_thread 0) (idle_row b h t z.hazards v) (idle_row b h t 0 v)))
     (λ n. same_all (z.nodes + 1) n Free ∙ sym (v.nodes b n))
     refl
-    (sym v.accepted)
 
 -- Begins.
 
@@ -119,7 +115,6 @@ shown_begin b h x u o y z k p e shape lt f s =
     (row_begins b h u o y z k p (thread_of x u) e (row_of b h x s u)))
     (λ n. rw e (takes_at x.settings u p x.nodes n (state_in b h n) f shape.nodes (s.shows.nodes n)))
     s.shows.settings
-    (ap (λ (n : ℕ). n + 1) s.accepted)
 
 -- Steps.
 
@@ -134,7 +129,6 @@ shown_step h x m m' u k p lt met s =
     (rows_set m.bound h (event (Step u) out.answer k ∷ h) x.threads u out.own (rw p.shape.threads lt) (row_of m.bound h x s) (λ t ne. same_step h u out.answer k t ne) left.row)
     left.nodes
     s.shows.settings
-    (rw left.accepts (ap (λ (n : ℕ). n + 1) s.accepted))
   where
     out : Outcome
     out = after (here x m u) (thread_of x u).point k
@@ -175,7 +169,7 @@ shown_keeps b h s s' e q i t =
 -- Before set-up.
 
 pub untouched_start : Untouched []
-untouched_start = record { doing = λ t. refl; guards = λ t i. refl; lists = λ b t. refl; inside = λ t. refl; nodes = λ b n. refl; settings = refl; accepted = refl }
+untouched_start = record { doing = λ t. refl; guards = λ t i. refl; lists = λ b t. refl; inside = λ t. refl; nodes = λ b n. refl; settings = refl }
 
 pub untouched_refused : (h : List Event) (c : Call) (e : Refusal) (k : Told) → Untouched h → Untouched (event c (Refused e) k ∷ h)
 untouched_refused h c e k v =
@@ -186,7 +180,6 @@ untouched_refused h c e k v =
       inside = λ t. refused_inside h c e k t ∙ v.inside t;
       nodes = λ b n. refused_state h c e k b n ∙ v.nodes b n;
       settings = refused_settings h c e k ∙ v.settings;
-      accepted = refused_accepted h c e k ∙ v.accepted;
     }
 
 some_none : (o : Option Tables) (x : Tables) → o ≡ Some x → o ≡ None → ⊥
@@ -239,10 +232,3 @@ explains_reached (e ∷ h) s' (s, led, t) = next (explains_reached h s led)
 
 pub tables_show : TablesShowTheHistory
 tables_show h s x p e = ((explains_reached h s p).shown x e).shows
-
-pub tables_stand : TablesStandFromSetUp
-tables_stand h s p = at s.tables refl
-  where
-    at : (o : Option Tables) → s.tables ≡ o → ShownBy s.memory.bound h o
-    at None e = ((explains_reached h s p).before e).settings
-    at (Some x) e = let now = (explains_reached h s p).shown x e in record { shows = now.shows; accepted = now.accepted }

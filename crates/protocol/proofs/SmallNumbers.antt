@@ -18,9 +18,9 @@ use Rattle.protocol.specs.Steps.{Request, asks_load, asks_store, asks_exchange, 
 use Rattle.protocol.specs.Tables.{Thread, Tables, State, thread_of, idle_thread, Point, idle, protect1, protect2, protect3, protect4, copy1, release1, publish1, remove1, remove2, remove3, reclaim1, reclaim2, reclaim3, owner_lock1, owner_lock2, owner_lock3, owner_lock4, owner_lock5, owner_unlock1, owner_unlock2, owner_unlock3, owner_unlock4, other_lock1, other_lock2, other_lock3, other_lock4, other_lock5, other_lock6, other_lock7, other_lock8, other_unlock1, other_unlock2, other_unlock3}
 use Rattle.protocol.specs.Transition.{Meets, here}
 use Rattle.protocol.proofs.FirstState.{replicated, same_all, new_empty, new_blank}
-use Rattle.protocol.proofs.Invariants.{FirstHolds, Kept, calls-keep, always}
+use Rattle.protocol.proofs.Invariants.{FirstHolds, Kept, calls_keep, always}
 use Rattle.protocol.proofs.Placed.{FitsAt, Placed}
-use Rattle.protocol.proofs.PlacedMemory.{Ranges, ranges}
+use Rattle.protocol.proofs.PlacedMemory.{Ranges, ranges, nodes_high}
 
 -- The memory.
 
@@ -231,7 +231,7 @@ module _ (x : Tables) (m : Meaning) (t : ℕ) (lt : t < x.settings.threads) (p :
   asks_small (protect4 r h) f s = omega arith
   asks_small (copy1 i j) f s = let g = own.guards i in omega arith
   asks_small (release1 i) f s = omega arith
-  asks_small (publish1 r n) f s = let g = f.2 in let n64 = small.nodes in omega arith
+  asks_small (publish1 r n) f s = let g = f.2 in let n64 = nodes_high x.settings p.shape.range in omega arith
   asks_small (remove1 r) f s = tt
   asks_small (remove2 r n) f s = omega arith
   asks_small (remove3 r n) f s = tt
@@ -386,4 +386,4 @@ small_kept =
     }
 
 pub explains_small : (h : List Event) (s : State) → Explains h s → (x : Tables) → s.tables ≡ Some x → Small x s.memory
-explains_small = always Small small_starts (calls-keep Small small_kept)
+explains_small = always Small small_starts (calls_keep Small small_kept)

@@ -28,7 +28,6 @@ get_d_set l i j a d lt = at (cases_eq i j)
 
 -- what a step leaves, against the history with the step
 pub record Leaves (h : List Event) (k : Told) (x : Here) (o : Outcome) : Type 0 where
-  pub accepts : accepted o.answer ≡ true
   pub row : Row x.bound (event (Step x.thread) o.answer k ∷ h) x.thread o.own
   pub nodes : (n : ℕ) → get_or o.nodes n Free ≡ state_in x.bound (event (Step x.thread) o.answer k ∷ h) n
 
@@ -58,7 +57,6 @@ leaves_by : (h : List Event) (k : Told) (x : Here) (d : Doing) → doing_in h x.
     → Leaves h k x o
 leaves_by h k x d e o ok doing guards lists inside known nodes =
     record {
-      accepts = ok;
       row =
           record {
             doing = rw (eq-eqb x.thread x.thread refl, e) doing;

@@ -14,9 +14,9 @@ use Rattle.protocol.specs.Begin.{named, fits, ready, roomy, sided, start_of, tak
 use Rattle.protocol.specs.Calls.{Performs}
 use Rattle.protocol.specs.Steps.{told_nothing, moved_to}
 use Rattle.protocol.specs.Tables.{Tables as Table, Thread as Row, doing_at, thread_of}
-use Rattle.protocol.specs.Transition.{checks_of, begin_asks, asked, is_idle, begins as beginsBy}
+use Rattle.protocol.specs.Transition.{checks_of, begin_asks, asked, is_idle, begins as begins_by}
 use Rattle.protocol.proofs.CallsKept.{performed}
-use Rattle.protocol.proofs.Passed.{BeginPassed, begin_passed, rest_passed, calls_left as few-left}
+use Rattle.protocol.proofs.Passed.{BeginPassed, begin_passed, begin_room, rest_passed, calls_left as few_left}
 use Rattle.tables.specs.declared.tables.Tables.{Tables}
 use Rattle.tables.specs.declared.thread.Thread.{Thread}
 use Rattle.tables.specs.Rows.{states_of}
@@ -110,15 +110,18 @@ begin_done x m t n a b d o lt passes is row' ns' e f =
     let own = get_or x.threads t d in
     let row : row_of row' ≡ moved_to (start_of o) (thread_of table t) = ap row_of e ∙ begins_row o own ∙ ap (moved_to (start_of o)) (sym (row_at x t d lt)) in
     rw (rows_set x.layout.settings.threads x.threads t row', row, f)
-    (performed (record { told = told_nothing; trans = beginsBy refl is passes (record { memory = refl; tables = refl }) }))
+    (performed (record { told = told_nothing; trans = begins_by refl is passes (record { memory = refl; tables = refl }) }))
 
 -- what it has passed
 pub begin_passed_by : (x : Tables) (m : Meaning) (t n a b : ℕ) (o : Operation) → first_no (checks_of (Begin t n a b) (running x m)) ≡ None → named n a b ≡ Some o → BeginPassed t o (tables_of x)
 begin_passed_by x m t n a b o passes is = begin_passed t o (tables_of x) (rw is at (rest_passed (Some (tables_of x)) (begin_asks t (named n a b)) (tables_of x) refl passes))
 
+pub begin_room_by : (x : Tables) (m : Meaning) (t n a b : ℕ) (o : Operation) → first_no (checks_of (Begin t n a b) (running x m)) ≡ None → named n a b ≡ Some o → roomy (tables_of x) (thread_of (tables_of x) t) o ≡ true
+begin_room_by x m t n a b o passes is = begin_room t o (tables_of x) (rw is at (rest_passed (Some (tables_of x)) (begin_asks t (named n a b)) (tables_of x) refl passes))
+
 pub begin_few : (x : Tables) (m : Meaning) (t n a b : ℕ) → first_no (checks_of (Begin t n a b) (running x m)) ≡ None → x.accepted < 8000
-begin_few x m t n a b passes = few-left (Some (tables_of x)) (begin_asks t (named n a b)) (tables_of x) refl passes
+begin_few x m t n a b passes = few_left (Some (tables_of x)) (begin_asks t (named n a b)) (tables_of x) refl passes
 
 -- the row still fits
-pub begun_fitting : (x : Tables) (t : ℕ) (d : Thread) (o : Operation) → BeginPassed t o (tables_of x) → fitting x.layout.settings (begins o (get_or x.threads t d)) ≡ true
-begun_fitting x t d o p = begins_fitting (tables_of x) o (get_or x.threads t d) p.fits (rw (row_at x t d p.thread) at p.room)
+pub begun_fitting : (x : Tables) (t : ℕ) (d : Thread) (o : Operation) → BeginPassed t o (tables_of x) → roomy (tables_of x) (thread_of (tables_of x) t) o ≡ true → fitting x.layout.settings (begins o (get_or x.threads t d)) ≡ true
+begun_fitting x t d o p room = begins_fitting (tables_of x) o (get_or x.threads t d) p.fits (rw (row_at x t d p.thread) at room)

@@ -7,8 +7,8 @@ use Rattle.dated.proofs.row.keep.Goals as goal
 use Rattle.dated.proofs.row.keep.Goals.{then-keeps, else-keeps}
 
 -- a length past the slice is the slice's
-row-end : {X : Type 0} (xs : List X) (i len : ℕ) → i ≡ min len (length xs) → take i xs ≡ take len xs
-row-end {X} xs i len e =
+row_end : {X : Type 0} (xs : List X) (i len : ℕ) → i ≡ min len (length xs) → take i xs ≡ take len xs
+row_end {X} xs i len e =
     elim (cases_lt len (length xs)) [
       | inl h ↦ ap (λ (n : ℕ). take n xs) (omega arith)
       | inr h ↦ take_all i xs (omega arith) ∙ sym (take_all len xs h)
@@ -28,7 +28,7 @@ loop-i-preserved g c =
 
 pub returns : goal.returns
 returns g c =
-    let row = row-end c.args.entries.now c.loop-i.i c.args.len (omega arith) in
+    let row = row_end c.args.entries.now c.loop-i.i c.args.len (omega arith) in
     let k = kept_all (g.K.Rule.keeps c.args.rule.now) c.args.entries.now c.loop-i.entries c.loop-i.kept c.loop-i.i c.args.len c.loop-i.invariant row in
     record {
       answer = k.0;

@@ -1,4 +1,4 @@
-use Rattle.protocol.proofs.ShownKeeps.{tables_stand}
+use Rattle.protocol.proofs.AcceptedCalls.{tables_stand}
 use Rattle.protocol.proofs.theorems.tables_stand_from_set_up.Goals as goal
 
 pub returns : goal.returns

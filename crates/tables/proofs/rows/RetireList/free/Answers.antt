@@ -13,12 +13,12 @@ abbrev nil : Retired
 nil = record { node = 0; date = 0 }
 
 -- one entry on: a node that is not kept is free, and the rest of the list is left
-free-next : (k : Retired → Bool) (b : Bool) (l : List Retired) (e : Retired) (r : List Retired) (ns ns' : List NodeState)
+free_next : (k : Retired → Bool) (b : Bool) (l : List Retired) (e : Retired) (r : List Retired) (ns ns' : List NodeState)
     → l ≡ e ∷ r → k e ≡ b → ns' ≡ cond b ns (set ns e.node Free) → freeing (filter (λ x. not (k x)) r) ns' ≡ freeing (filter (λ x. not (k x)) l) ns
-free-next k true l e r ns ns' is h to =
+free_next k true l e r ns ns' is h to =
     let f : Retired → Bool = λ x. not (k x) in
     ap (freeing (filter f r)) to ∙ sym (ap (λ (q : List Retired). freeing q ns) (kept_next f false l e r is (ap not h)))
-free-next k false l e r ns ns' is h to =
+free_next k false l e r ns ns' is h to =
     let f : Retired → Bool = λ x. not (k x) in
     ap (freeing (filter f r)) to ∙ sym (ap (λ (q : List Retired). freeing q ns) (kept_next f true l e r is (ap not h)))
 
@@ -29,8 +29,8 @@ loop-i-preserved c =
     let s = c.args.sweep.now in
     let more = row_drop_more l.len l.entries c.loop-i.i nil (omega arith) (omega arith) in
     elim c.if-not-keeps.branch [
-      | then-not-keeps w ↦ free-next (keeps s.bound s.clock (loaded_of s.loaded)) false _ _ _ _ _ more (sym w.if-not-keeps.ensures) (ap states_of w.nodes-is ∙ w.mark.ensures) ∙ c.loop-i.invariant
-      | else-not-keeps w ↦ free-next (keeps s.bound s.clock (loaded_of s.loaded)) true _ _ _ _ _ more (sym w.if-not-keeps.ensures) (ap states_of w.nodes-is) ∙ c.loop-i.invariant
+      | then-not-keeps w ↦ free_next (keeps s.bound s.clock (loaded_of s.loaded)) false _ _ _ _ _ more (sym w.if-not-keeps.ensures) (ap states_of w.nodes-is ∙ w.mark.ensures) ∙ c.loop-i.invariant
+      | else-not-keeps w ↦ free_next (keeps s.bound s.clock (loaded_of s.loaded)) true _ _ _ _ _ more (sym w.if-not-keeps.ensures) (ap states_of w.nodes-is) ∙ c.loop-i.invariant
     ]
 
 pub returns : goal.returns

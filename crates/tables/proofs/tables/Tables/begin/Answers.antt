@@ -3,7 +3,7 @@ use Rattle.memory.specs.Meaning.{fresh}
 use Rattle.tables.specs.Rows.{states_of}
 use Rattle.tables.specs.Threads.{fitting}
 use Rattle.tables.proofs.Admission.{refused}
-use Rattle.tables.proofs.BeginMoves.{begin_done, begin_few, begin_passed_by, begun_fitting}
+use Rattle.tables.proofs.BeginMoves.{begin_done, begin_few, begin_passed_by, begin_room_by, begun_fitting}
 use Rattle.tables.proofs.ThreadTable.{fitting_set}
 use Rattle.tables.proofs.tables.Tables.begin.Goals as goal
 
@@ -73,7 +73,8 @@ invariant_of-self c =
     let t = c.args.thread in
     let row' = c.begin.new.self in
     let z = x.layout.settings in
-    let fits = begun_fitting x t c.index-self-thread.result c.in-Ok.operation p in
+    let room = begin_room_by x (fresh 1 false) c.args.thread c.args.number c.args.a c.args.b c.in-Ok.operation h.0 h.1 in
+    let fits = begun_fitting x t c.index-self-thread.result c.in-Ok.operation p room in
     record { eight = length-set x.threads t row' ∙ x.eight; fit = fitting_set z x.threads t row' x.fit (ap (fitting z) c.begin.ensures ∙ fits) }
 
 pub returns-in-Ok : goal.returns-in-Ok
