@@ -4,7 +4,7 @@ use Rattle.memory.specs.Checks.{limit_in_range}
 use Rattle.memory.specs.Meaning.{Meaning, fresh}
 use Rattle.protocol.specs.declared.answer.Answer.{Answer}
 use Rattle.protocol.specs.declared.call.Call.TheVariants.{SetUp}
-use Rattle.protocol.specs.Calls.{Performs, begun_new}
+use Rattle.protocol.specs.Calls.{Performs, begun_over}
 use Rattle.protocol.specs.Tables.{State}
 use Rattle.lines.specs.declared.head.Head.{Head}
 use Rattle.listing.specs.Made.{Opened}
@@ -18,7 +18,7 @@ pub names_layer : (h : Head) → h.memory ≡ 3 → (limit_in_range h.bound && l
 names_layer h e f = rw (e, f) refl
 
 -- set-up of a machine begun new over it
-pub opened : (h : Head) (m m₀ : Meaning) (s : Session) (x₀ x : State) (a : Answer) → memory_in h ≡ Some m → x₀ ≡ begun_new m₀ → m₀ ≡ m → Performs x₀ x (SetUp h.settings) a → Opened h (memory_in h) s (running x) (Some a)
+pub opened : (h : Head) (m m₀ : Meaning) (s : Session) (x₀ x : State) (a : Answer) → memory_in h ≡ Some m → x₀ ≡ begun_over m₀ → m₀ ≡ m → Performs x₀ x (SetUp h.settings) a → Opened h (memory_in h) s (running x) (Some a)
 opened h m m₀ s x₀ x a named new same p = rw named (x, refl, rw (new, same) at p)
 
 -- the whole line, where a memory was made

@@ -8,7 +8,7 @@ use Rattle.memory.specs.Checks.{limit_in_range}
 use Rattle.memory.specs.Meaning.{Meaning, fresh}
 use Rattle.protocol.specs.declared.answer.Answer.{Answer}
 use Rattle.protocol.specs.declared.call.Call.TheVariants.{SetUp}
-use Rattle.protocol.specs.Calls.{Performs, begun_new}
+use Rattle.protocol.specs.Calls.{Performs, begun_over}
 use Rattle.protocol.specs.Tables.{State}
 use Rattle.quiescing.specs.declared.Quiescing.{Quiescing}
 use Rattle.quiescing.specs.Quiescing.{quiescing}
@@ -32,4 +32,4 @@ abbrev pub Opened : Head → Option Meaning → Session → Session → Option A
 Opened h None s s' None = s' ≡ s
 Opened h None s s' (Some a) = ⊥
 Opened h (Some m) s s' None = ⊥
-Opened h (Some m) s s' (Some a) = (x : State) × (s' ≡ running x) × Performs (begun_new m) x (SetUp h.settings) a
+Opened h (Some m) s s' (Some a) = (x : State) × (s' ≡ running x) × Performs (begun_over m) x (SetUp h.settings) a

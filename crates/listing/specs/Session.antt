@@ -5,7 +5,7 @@ use Rattle.memory.specs.Meaning.{Meaning, fresh}
 use Rattle.protocol.specs.declared.answer.Answer.{Answer}
 use Rattle.protocol.specs.declared.call.Call.{Call}
 use Rattle.protocol.specs.declared.call.Call.TheVariants.{SetUp}
-use Rattle.protocol.specs.Calls.{Performs, begun_new}
+use Rattle.protocol.specs.Calls.{Performs, begun_over}
 use Rattle.protocol.specs.Codes.{code_of, value_of}
 use Rattle.protocol.specs.Tables.{State}
 use Rattle.lines.specs.declared.head.Head.{Head}
@@ -39,12 +39,12 @@ memory_in h =
 
 -- a machine that no line can set up
 abbrev pub never : State
-never = begun_new (fresh 1 false)
+never = begun_over (fresh 1 false)
 
 -- the first line: the machine is set up over the memory
 abbrev pub Opens : Head → Option Meaning → State → List ℕ → Type 0
 Opens h None x bs = (x ≡ never) × (bs ≡ unmade)
-Opens h (Some m) x bs = (a : Answer) × Performs (begun_new m) x (SetUp h.settings) a × (bs ≡ shown a)
+Opens h (Some m) x bs = (a : Answer) × Performs (begun_over m) x (SetUp h.settings) a × (bs ≡ shown a)
 
 abbrev pub First : Option Head → State → List ℕ → Type 0
 First None x bs = (x ≡ never) × (bs ≡ malformed)

@@ -5,7 +5,7 @@ use Rattle.memory.specs.Calls.{Sound}
 use Rattle.memory.specs.Meaning.{Meaning}
 use Rattle.protocol.specs.declared.answer.Answer.{Answer}
 use Rattle.protocol.specs.declared.call.Call.{Call}
-use Rattle.protocol.specs.Calls.{Moves, Leads, Performs, Runs, begun_new}
+use Rattle.protocol.specs.Calls.{Moves, Leads, Performs, Runs, begun_over}
 use Rattle.protocol.specs.Guarantees.{Explains}
 use Rattle.protocol.specs.History.{event}
 use Rattle.protocol.specs.Steps.{Told}
@@ -21,7 +21,7 @@ pub performed : {s s' : State} {c : Call} {a : Answer} → Moves s s' c a → Pe
 performed {s} {s'} {c} {a} m = record { told = m.told; moves = m.trans; leads = leads s s' c a m.told m.trans }
 
 -- no call has been made
-pub runs_none : (m : Meaning) (told : List Answer) (s : State) → Sound m → told ≡ [] → s ≡ begun_new m → Runs m [] told s
+pub runs_none : (m : Meaning) (told : List Answer) (s : State) → Sound m → told ≡ [] → s ≡ begun_over m → Runs m [] told s
 runs_none m told s sound none e =
     let w : Explains [] s = rw e (refl, sound) in
     record { history = []; calls = refl; answers = rw none refl; follows = e; explains = w; guarantees = all_the_guarantees [] s w }

@@ -1,5 +1,5 @@
 -- What an accepted call has passed. Assumes nothing.
-use Rattle.std.proofs.Common.{◌≡◌, ℕ, ◌<◌, true, not, ltb, List, [], ◌∷◌, is_some, Some, None, Option, refl}
+use Rattle.std.proofs.Common.{◌≡◌, ℕ, ◌<◌, true, not, ltb, List, [], ◌∷◌, is_some, Some, None, Option, refl, arith}
 use Rattle.std.proofs.lemmas.Bool.{ltb-true}
 use Rattle.memory.specs.Checks.{Check, check, first_no, tick_checks}
 use Rattle.memory.specs.Meaning.{Meaning, is_new}
@@ -29,10 +29,10 @@ none_since (Some a) e = cc
 
 -- after the first check of a call on a machine that is set up
 pub rest_passed : (o : Option Tables) (rest : Tables → List (Check Refusal)) (x : Tables) → o ≡ Some x → first_no (first o rest) ≡ None → first_no (rest x) ≡ None
-rest_passed o rest x e f = passed_tail (ltb x.accepted 8000) CallsUsedUp (rest x) (rw e at f)
+rest_passed o rest x e f = passed_tail _ CallsUsedUp (rest x) (rw e at f)
 
 pub calls_left : (o : Option Tables) (rest : Tables → List (Check Refusal)) (x : Tables) → o ≡ Some x → first_no (first o rest) ≡ None → x.accepted < 8000
-calls_left o rest x e f = ltb-true x.accepted 8000 (passed_head (ltb x.accepted 8000) CallsUsedUp (rest x) (rw e at f))
+calls_left o rest x e f = let less = ltb-true _ _ (passed_head _ CallsUsedUp (rest x) (rw e at f)) in omega arith
 
 pub record SetUpPassed (z : Settings) (s : State) : Type 0 where
   pub first : s.tables ≡ None

@@ -23,30 +23,38 @@ pub record Ranges (z : Settings) : Type 0 where
   pub cells : hazard_cells z ≤ 32
   pub some : 0 < hazard_cells z
 
-pub ranges : (z : Settings) → in_range z ≡ true → Ranges z
-ranges z e =
+-- the tests of the range, one by one
+record Within (z : Settings) : Type 0 where
+  threads : within 2 8 z.threads ≡ true
+  hazards : within 1 4 z.hazards ≡ true
+  roots : within 1 8 z.roots ≡ true
+  nodes : within 1 64 z.nodes ≡ true
+
+within_range : (z : Settings) → in_range z ≡ true → Within z
+within_range z e =
     let a = and_parts (within 2 8 z.threads) (within 1 4 z.hazards && (within 1 8 z.roots && (within 1 64 z.nodes && (ltb (hazard_cells z) z.places && leb z.places 48)))) e in
     let b = and_parts (within 1 4 z.hazards) (within 1 8 z.roots && (within 1 64 z.nodes && (ltb (hazard_cells z) z.places && leb z.places 48))) a.1 in
     let c = and_parts (within 1 8 z.roots) (within 1 64 z.nodes && (ltb (hazard_cells z) z.places && leb z.places 48)) b.1 in
-    let t : z.threads ≤ 8 = leb-true z.threads 8 (and_parts (leb 2 z.threads) (leb z.threads 8) a.0).1 in
-    let h : z.hazards ≤ 4 = leb-true z.hazards 4 (and_parts (leb 1 z.hazards) (leb z.hazards 4) b.0).1 in
-    let u : 2 ≤ z.threads = leb-true 2 z.threads (and_parts (leb 2 z.threads) (leb z.threads 8) a.0).0 in
-    let i : 1 ≤ z.hazards = leb-true 1 z.hazards (and_parts (leb 1 z.hazards) (leb z.hazards 4) b.0).0 in
+    let d = and_parts (within 1 64 z.nodes) (ltb (hazard_cells z) z.places && leb z.places 48) c.1 in
+    record { threads = a.0; hazards = b.0; roots = c.0; nodes = d.0 }
+
+pub ranges : (z : Settings) → in_range z ≡ true → Ranges z
+ranges z e =
+    let w = within_range z e in
+    let t : z.threads ≤ 8 = leb-true z.threads 8 (and_parts (leb 2 z.threads) (leb z.threads 8) w.threads).1 in
+    let h : z.hazards ≤ 4 = leb-true z.hazards 4 (and_parts (leb 1 z.hazards) (leb z.hazards 4) w.hazards).1 in
+    let u : 2 ≤ z.threads = leb-true 2 z.threads (and_parts (leb 2 z.threads) (leb z.threads 8) w.threads).0 in
+    let i : 1 ≤ z.hazards = leb-true 1 z.hazards (and_parts (leb 1 z.hazards) (leb z.hazards 4) w.hazards).0 in
     record {
       threads = t;
       hazards = h;
-      roots = leb-true z.roots 8 (and_parts (leb 1 z.roots) (leb z.roots 8) c.0).1;
+      roots = leb-true z.roots 8 (and_parts (leb 1 z.roots) (leb z.roots 8) w.roots).1;
       cells = mul-le-mul t h;
       some = let few : 2 * 1 ≤ z.threads * z.hazards = mul-le-mul u i in omega arith;
     }
 
 pub nodes_high : (z : Settings) → in_range z ≡ true → z.nodes ≤ 64
-nodes_high z e =
-    let a = and_parts (within 2 8 z.threads) (within 1 4 z.hazards && (within 1 8 z.roots && (within 1 64 z.nodes && (ltb (hazard_cells z) z.places && leb z.places 48)))) e in
-    let b = and_parts (within 1 4 z.hazards) (within 1 8 z.roots && (within 1 64 z.nodes && (ltb (hazard_cells z) z.places && leb z.places 48))) a.1 in
-    let c = and_parts (within 1 8 z.roots) (within 1 64 z.nodes && (ltb (hazard_cells z) z.places && leb z.places 48)) b.1 in
-    let d = and_parts (within 1 64 z.nodes) (ltb (hazard_cells z) z.places && leb z.places 48) c.1 in
-    leb-true z.nodes 64 (and_parts (leb 1 z.nodes) (leb z.nodes 64) d.0).1
+nodes_high z e = leb-true z.nodes 64 (and_parts (leb 1 z.nodes) (leb z.nodes 64) (within_range z e).nodes).1
 
 -- the hazard cells stand below the lock's cells
 pub hazard_below : (z : Settings) (t h : ℕ) → t < z.threads → h < z.hazards → hazard_cell z t h < lock_cell z

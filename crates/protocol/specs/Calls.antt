@@ -32,8 +32,8 @@ Follows s [] s' = s' ≡ s
 Follows s (e ∷ h) s'' = (s' : State) × Follows s h s' × Trans s' s'' e.call e.answer e.told
 
 -- a machine begun new over a memory
-abbrev pub begun_new : Meaning → State
-begun_new m = record { tables = None; memory = m }
+abbrev pub begun_over : Meaning → State
+begun_over m = record { tables = None; memory = m }
 
 -- What a run promises: its history has the calls that were handed in and the answers that were handed out, one by one; it leads from
 -- a machine begun new over the memory that was handed in to the machine that is handed out; and it has the whole guarantee.
@@ -42,6 +42,6 @@ pub record Runs (m : Meaning) (cs : List Call) (rs : List Answer) (s' : State) :
   pub history : List Event
   pub calls : map (λ (e : Event). e.call) history ≡ reverse cs
   pub answers : map (λ (e : Event). e.answer) history ≡ reverse rs
-  pub follows : Follows (begun_new m) history s'
+  pub follows : Follows (begun_over m) history s'
   pub explains : Explains history s'
   pub guarantees : AllGuarantees s'.memory.bound history

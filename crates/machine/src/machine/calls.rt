@@ -3,7 +3,7 @@
 ghost use Rattle.std.specs.Prelude.{◌≡◌};
 ghost use Rattle.tables.specs.Asked.{answer_of};
 ghost use Rattle.machine.specs.State.{state};
-ghost use Rattle.protocol.specs.Calls.{Performs, begun_new};
+ghost use Rattle.protocol.specs.Calls.{Performs, begun_over};
 ghost use Rattle.protocol.specs.declared.call.Call.TheVariants.{SetUp, Tick, Land, Begin, Step};
 
 use crate::machine::Machine;
@@ -35,7 +35,7 @@ fn answer(res: Result<Answer, Refusal>) -> Answer
 impl<M: Memory> Machine<M> {
     // A machine over the memory, which is not set up.
     pub fn new(memory: M) -> Machine<M>
-        ensures { state M.meaning result ≡ begun_new (M.meaning memory) }
+        ensures { state M.meaning result ≡ begun_over (M.meaning memory) }
     {
         let Some(layout) = Layout::new(SMALLEST) else {
             unreachable()

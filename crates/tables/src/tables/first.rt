@@ -1,5 +1,6 @@
 // The tables of a machine that has just been set up.
 ghost use Rattle.std.specs.Prelude.{◌≡◌};
+ghost use Rattle.tables.specs.Layout.{layout_settings};
 ghost use Rattle.tables.specs.State.{tables_of};
 ghost use Rattle.protocol.specs.Tables.{first_tables};
 
@@ -10,7 +11,7 @@ use crate::thread::Thread;
 
 impl Tables {
     pub fn first(layout: Layout) -> Tables
-        ensures { tables_of result ≡ first_tables layout.settings }
+        ensures { tables_of result ≡ first_tables (layout_settings layout) }
     {
         let settings = layout.settings;
         Tables {

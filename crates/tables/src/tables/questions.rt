@@ -13,7 +13,7 @@ use protocol::settings::Settings;
 
 impl Tables {
     pub fn settings(&self) -> Settings
-        ensures { result ≡ self.now.layout.settings }
+        ensures { result ≡ (tables_of self.now).settings }
     {
         self.layout.settings
     }
@@ -25,7 +25,7 @@ impl Tables {
     }
 
     pub fn hazard_cell(&self, cell: usize) -> Option<(usize, usize)>
-        ensures { result ≡ hazard_at self.now.layout.settings cell }
+        ensures { result ≡ hazard_at (tables_of self.now).settings cell }
     {
         self.layout.hazard_at(cell)
     }

@@ -1,5 +1,5 @@
 use Rattle.std.proofs.Common.{sym, ap, ◌∙◌, arith, rules}
-use Rattle.protocol.specs.Calls.{begun_new}
+use Rattle.protocol.specs.Calls.{begun_over}
 use Rattle.protocol.specs.Tables.{State}
 use Rattle.machine.specs.State.{state}
 use Rattle.protocol.proofs.CallsKept.{runs_none, runs_more, runs_all}
@@ -24,4 +24,4 @@ loop-call-init g c =
     let m = g.M.Memory.meaning in
     let made = c.in-Ok.ensures in
     let same = ap (λ (s : State). s.memory) c.new-machine.ensures in
-    (made.len, made.capacity, runs_none (m x.memory) _ (state m x) (g.met.M.Memory.sound x.memory) made.items (c.new-machine.ensures ∙ ap begun_new (sym same)))
+    (made.len, made.capacity, runs_none (m x.memory) _ (state m x) (g.met.M.Memory.sound x.memory) made.items (c.new-machine.ensures ∙ ap begun_over (sym same)))
