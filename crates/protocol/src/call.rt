@@ -1,7 +1,7 @@
 // The calls of the machine. A begin has its operation by number, so that every number gets an answer.
 use crate::settings::Settings;
 
-#[derive(Clone, Copy)]
+#[derive(Clone, Copy, PartialEq, Eq, Debug)]
 pub enum Call {
     SetUp(Settings),
     Tick,

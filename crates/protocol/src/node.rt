@@ -1,5 +1,5 @@
 // Where a node is.
-#[derive(Clone, Copy)]
+#[derive(Clone, Copy, PartialEq, Eq, Debug)]
 pub enum NodeState {
     Free,
     // by the thread that publishes it

@@ -1,5 +1,5 @@
 // What a thread can be told to do, with the arguments that it uses.
-#[derive(Clone, Copy)]
+#[derive(Clone, Copy, PartialEq, Eq, Debug)]
 pub enum Operation {
     Protect { root: usize, hazard: usize },
     Copy { from: usize, to: usize },

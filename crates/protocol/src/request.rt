@@ -1,5 +1,5 @@
 // What a step asks of the memory.
-#[derive(Clone, Copy)]
+#[derive(Clone, Copy, PartialEq, Eq, Debug)]
 pub enum Request {
     Load { cell: usize },
     Store { cell: usize, value: u64 },

@@ -1,7 +1,7 @@
 // A node in a retire list, with the clock of its retirement.
 use dated::entry::Dated;
 
-#[derive(Clone, Copy)]
+#[derive(Clone, Copy, PartialEq, Eq, Debug)]
 pub struct Retired {
     pub node: usize,
     pub date: u32,

@@ -1,5 +1,5 @@
 // What a machine is set up with.
-#[derive(Clone, Copy)]
+#[derive(Clone, Copy, PartialEq, Eq, Debug)]
 pub struct Settings {
     // 2 to 8
     pub threads: usize,
