@@ -1,1 +1,2 @@
+pub mod FixedRow
 pub mod Row

@@ -2,6 +2,7 @@
 #![tactic(auto)]
 
 pub mod entry;
+pub mod fixed_row;
 pub mod row;
 #[cfg(test)]
 mod tests;

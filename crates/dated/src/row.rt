@@ -45,6 +45,7 @@ pub fn keep<T: Dated + Copy, K: Rule<T>>(entries: &mut [T], len: usize, rule: &K
 {
     let end = len.min(entries.len());
     let mut kept = 0;
+    // by index, since the loop writes into the slice that it reads
     for i in 0..end {
         let entry = entries[i];
         if rule.keeps(&entry) {
