@@ -1,20 +1,22 @@
 -- The ghost facts of a held memory are what `Sound` says of its meaning. Assumes nothing.
-use Rattle.std.specs.Prelude.{◌≡◌, ℕ, ◌+◌, ◌<◌, ◌≤◌, false, List, [], ◌∷◌, ◌++◌, map, length, Option, slice_index_or, slice_set, refl}
+use Rattle.std.specs.Prelude.{◌≡◌, ℕ, ◌+◌, ◌<◌, ◌≤◌, false, List, [], ◌∷◌, ◌++◌, map, length, Some, None, Ok, Err, Option, Result, slice_index_or, slice_set, refl}
 use Rattle.std.proofs.Common.{sym, ap, subst, ◌∙◌, arith}
+use Rattle.std.specs.Option.{unwrap_or}
 use Rattle.std.specs.List.{AllByRecursion}
 use Rattle.std.proofs.ByRecursion.{All-get_or}
 use Rattle.std.proofs.lemmas.List.{length-map}
 use Rattle.held.specs.declared.Held.{Held}
 use Rattle.held.specs.declared.store_buffer.StoreBuffer.{StoreBuffer}
+use Rattle.memory.specs.declared.refusal.Refusal.{Refusal}
 use Rattle.memory.specs.declared.write.Write.{Write}
-use Rattle.memory.specs.Calls.{Sound}
+use Rattle.memory.specs.Calls.{Sound, Stores}
 use Rattle.held.specs.Held.{held}
-use Rattle.memory.specs.Meaning.{queue, cell, waiting_count, date_of_first, oldest_date, newest, value_or, loaded, with_cell, written, stored, landed}
+use Rattle.memory.specs.Meaning.{Meaning, queue, cell, waiting_count, newest, value_or, loaded, with_cell, written, stored, landed}
 use Rattle.held.specs.Queues.{DatesRise, DatesPast, InCells}
-use Rattle.held.specs.StoreBuffer.{row}
+use Rattle.held.specs.StoreBuffer.{row, Pushes}
 use Rattle.held.specs.SoundLaw.{nil, held_sound}
-use Rattle.memory.proofs.Dueness.{date_due}
-use Rattle.held.proofs.Rows.{queue_at, queue_past, with_rows, push_stores, take_lands}
+use Rattle.held.proofs.Rows.{queue_at, queue_past, with_rows, push_stores, take_lands, same_rows}
+use Rattle.memory.proofs.Passing.{store_passes, store_full}
 use Rattle.memory.proofs.Soundness.{stored_sound, landed_sound}
 
 -- What `Sound` says gives the ghost facts.
@@ -66,6 +68,29 @@ pub stores_sound : (h : Held) (t c v : ℕ) (d b : StoreBuffer)
     → t < 8 → c < 64 → length (row (slice_index_or h.buffers t d)) < 8 → row b ≡ row (slice_index_or h.buffers t d) ++ written (held h) c v ∷ [] → Sound (with_rows (held h) (slice_set h.buffers t b))
 stores_sound h t c v d b lt inside few e = subst Sound (sym (held_stores h t c v d b lt e)) (stored_sound t c v (held h) lt inside (rw (held_queue h t d lt) few) (held_sound h))
 
+-- The buffer of t as the code leaves it after a refusal: its row is the same, whatever stands behind it.
+pub held_same : (h : Held) (t : ℕ) (d b : StoreBuffer)
+    → t < 8 → row b ≡ row (slice_index_or h.buffers t d) → with_rows (held h) (slice_set h.buffers t b) ≡ held h
+held_same h t d b lt e = same_rows t (held h) h.buffers d b refl (rw h.threads lt) e
+
+pub same_sound : (h : Held) (t : ℕ) (d b : StoreBuffer)
+    → t < 8 → row b ≡ row (slice_index_or h.buffers t d) → Sound (with_rows (held h) (slice_set h.buffers t b))
+same_sound h t d b lt e = subst Sound (sym (held_same h t d b lt e)) (held_sound h)
+
+-- after a push, whether it was refused or not
+pub pushed_sound : (h : Held) (t c v : ℕ) (d b : StoreBuffer) (r : Result (Unit {0}) Refusal)
+    → t < 8 → c < 64 → Pushes (written (held h) c v) (row (slice_index_or h.buffers t d)) (row b) r → Sound (with_rows (held h) (slice_set h.buffers t b))
+pushed_sound h t c v d b (Ok u) lt inside p = stores_sound h t c v d b lt inside p.0 p.1
+pushed_sound h t c v d b (Err e) lt inside p = same_sound h t d b lt p.2
+
+pub pushed_stores : (L : Meaning → Meaning → Type 0) → ((m m' : Meaning) → m' ≡ m → L m m') → (h : Held) (t c v : ℕ) (d b : StoreBuffer) (r : Result (Unit {0}) Refusal)
+    → t < 8 → c < 64 → Pushes (written (held h) c v) (row (slice_index_or h.buffers t d)) (row b) r → Stores L t c v (held h) (with_rows (held h) (slice_set h.buffers t b)) r
+pushed_stores L same h t c v d b (Ok u) lt inside p =
+    record { passes = store_passes t c (held h) lt inside (rw (held_queue h t d lt) p.0); does = same _ _ (held_stores h t c v d b lt p.1) }
+pushed_stores L same h t c v d b (Err e) lt inside p =
+    let waits = ap length (held_queue h t d lt) ∙ p.1 in
+    record { fails = store_full t c (held h) lt inside (omega arith) ∙ ap Some (sym p.0); same = held_same h t d b lt p.2 }
+
 pub lands_sound : (h : Held) (t : ℕ) (d b : StoreBuffer) (w : Write)
     → t < 8 → row (slice_index_or h.buffers t d) ≡ w ∷ row b → Sound (with_cell (with_rows (held h) (slice_set h.buffers t b)) w.cell w.value)
 lands_sound h t d b w lt e = subst Sound (sym (held_lands h t d b w lt e)) (landed_sound t (held h) (held_sound h))
@@ -77,11 +102,10 @@ oldest_in_cells h t d b w lt e = (subst (AllByRecursion (λ (x : Write). x.cell 
 
 -- what a thread loads, by what its buffer answered
 pub held_loads : (h : Held) (t c : ℕ) (d : StoreBuffer) (found : Option ℕ)
-    → t < 8 → found ≡ newest (row (slice_index_or h.buffers t d)) c → value_or found (cell (held h) c) ≡ loaded (held h) t c
+    → t < 8 → found ≡ newest (row (slice_index_or h.buffers t d)) c → unwrap_or found (cell (held h) c) ≡ loaded (held h) t c
 unfolding loaded
-held_loads h t c d found lt e = ap (λ (o : Option ℕ). value_or o (cell (held h) c)) (e ∙ ap (λ (q : List Write). newest q c) (sym (held_queue h t d lt)))
-
--- whether a thread's oldest write is due, by what its buffer answered
-pub held_due : (h : Held) (t : ℕ) (d : StoreBuffer) (date : Option ℕ)
-    → t < 8 → date ≡ date_of_first (row (slice_index_or h.buffers t d)) → date_due (held h) (oldest_date (held h) t) ≡ date_due (held h) date
-held_due h t d date lt e = ap (date_due (held h)) (ap date_of_first (held_queue h t d lt) ∙ sym e)
+held_loads h t c d found lt e = or found ∙ ap (λ (o : Option ℕ). value_or o (cell (held h) c)) (e ∙ ap (λ (q : List Write). newest q c) (sym (held_queue h t d lt)))
+  where
+    or : (o : Option ℕ) → unwrap_or o (cell (held h) c) ≡ value_or o (cell (held h) c)
+    or None = refl
+    or (Some v) = refl

@@ -1,53 +1,33 @@
 -- The row of a store buffer, and a table of such rows. Assumes nothing.
-use Rattle.std.specs.Prelude.{◌≡◌, ℕ, zero, suc, ◌+◌, ◌<◌, ◌≤◌, cond, List, [], ◌∷◌, ◌++◌, map, length, get_or, take, drop, set, Some, None, Option, ◌==◌, slice_index_or, slice_set, refl}
-use Rattle.std.proofs.Common.{sym, ap, ◌∙◌, inl, inr, arith}
-use Rattle.std.proofs.lemmas.List.{length-map, get_or-take, get_or-map, get_or_past, map-set, at_drop_more, at_drop_all}
-use Rattle.std.proofs.lemmas.Bool.{cases_lt, lt-ltb, le-ltb}
-use Rattle.dated.specs.Row.{appended, first_of, head_of}
+use Rattle.std.specs.Prelude.{◌≡◌, ℕ, ◌<◌, ◌≤◌, Bool, true, false, cond, List, [], ◌∷◌, ◌++◌, map, reverse, length, get_or, set, Some, None, Option, ◌==◌, slice_index_or, slice_set, refl}
+use Rattle.std.proofs.Common.{sym, ap, ◌∙◌}
+use Rattle.std.specs.Option.{option_map, option_or}
+use Rattle.std.specs.List.{find}
+use Rattle.std.proofs.lemmas.List.{length-map, get_or-map, get_or_past, map-set, set-get_or, reverse-append}
+use Rattle.std.proofs.lemmas.List.Folds.{find-append}
 use Rattle.held.specs.declared.store_buffer.StoreBuffer.{StoreBuffer}
 use Rattle.memory.specs.declared.write.Write.{Write}
-use Rattle.memory.specs.Meaning.{Meaning, queue, date_of_first, newest_or, with_cell, written, stored, landed, landed_from}
+use Rattle.memory.specs.Meaning.{Meaning, queue, newest, newest_or, with_cell, written, stored, landed, landed_from}
 use Rattle.held.specs.StoreBuffer.{row}
-use Rattle.held.specs.SoundLaw.{nil, row_length}
 
-pub row_empty : (b : StoreBuffer) → b.len ≡ 0 → row b ≡ []
-unfolding row
-row_empty b e = rw e refl
-
--- the date of the first of n writes
-pub first_date : (ws : List Write) (n : ℕ) → 0 < n → n ≤ length ws → date_of_first (take n ws) ≡ Some (get_or ws 0 nil).date
-first_date ws zero some within = absurd (omega arith)
-first_date [] (suc n) some within = absurd (omega arith)
-first_date (w ∷ ws) (suc n) some within = refl
-
--- a search for the newest goes on from i
-pub newest_more : (b : StoreBuffer) (i c : ℕ) (found found' r : Option ℕ) → i < b.len → found' ≡ cond ((get_or b.writes i nil).cell == c) (Some (get_or b.writes i nil).value) found
-    → newest_or found (drop i (row b)) c ≡ r → newest_or found' (drop (i + 1) (row b)) c ≡ r
-unfolding row
-newest_more b i c found found' r lt e p =
-    let g : get_or (row b) i nil ≡ get_or b.writes i nil = get_or-take b.len b.writes i nil lt in
-    let long : i < length (row b) = rw (row_length b) lt in
-    let step : newest_or found (drop i (row b)) c ≡ newest_or (cond ((get_or (row b) i nil).cell == c) (Some (get_or (row b) i nil).value) found) (drop (i + 1) (row b)) c = at_drop_more (λ q. newest_or found q c) (row b) i nil long in
-    rw e (sym (simp g at step) ∙ p)
-
--- and ends with the row
-pub newest_all : (b : StoreBuffer) (i c : ℕ) (found r : Option ℕ) → b.len ≤ i → newest_or found (drop i (row b)) c ≡ r → found ≡ r
-newest_all b i c found r past p = sym (at_drop_all (λ q. newest_or found q c) (row b) i (rw (row_length b) past)) ∙ p
-
--- whether there was a place for one more
-pub append_some : (room len n : ℕ) → Some n ≡ appended room len → len < room
-append_some room len n e = elim (cases_lt len room) [ inl h ↦ h | inr h ↦ (let f = le-ltb len room h in let z : ◌≡◌ {A = ℕ} 0 1 = cc in absurd (omega arith)) ]
-
-pub append_none : (room len : ℕ) → None ≡ appended room len → room ≤ len
-append_none room len e = elim (cases_lt len room) [ inl h ↦ (let f = lt-ltb len room h in let z : ◌≡◌ {A = ℕ} 0 1 = cc in absurd (omega arith)) | inr h ↦ h ]
-
--- a row with no first is empty
-pub first_none : (len : ℕ) (ws : List Write) → len ≤ length ws → None ≡ first_of len ws → take len ws ≡ []
-first_none len ws within e = go (take len ws) (rw (le-ltb (length ws) len within) at e)
+-- what a search for the newest finds is the first of the reversed writes that is for the cell
+found_from : (found : Option ℕ) (ws : List Write) (c : ℕ) → newest_or found ws c ≡ option_or (option_map (λ (w : Write). w.value) (find (λ w. w.cell == c) (reverse ws))) found
+found_from found [] c = refl
+found_from found (w ∷ ws) c =
+    let more : find (λ (x : Write). x.cell == c) (reverse (w ∷ ws)) ≡ option_or (find (λ x. x.cell == c) (reverse ws)) (cond (w.cell == c) (Some w) None) = ap (find (λ (x : Write). x.cell == c)) (reverse-append (w ∷ []) ws) ∙ find-append (λ x. x.cell == c) (reverse ws) (w ∷ []) in
+    rw more (found_from (cond (w.cell == c) (Some w.value) found) ws c ∙ next (find (λ (x : Write). x.cell == c) (reverse ws)) (w.cell == c))
   where
-    go : (xs : List Write) → None ≡ head_of xs → xs ≡ []
-    go [] f = refl
-    go (x ∷ xs) f = let z : ◌≡◌ {A = ℕ} 0 1 = cc in absurd (omega arith)
+    next : (x : Option Write) (b : Bool) → option_or (option_map (λ (y : Write). y.value) x) (cond b (Some w.value) found) ≡ option_or (option_map (λ (y : Write). y.value) (option_or x (cond b (Some w) None))) found
+    next None true = refl
+    next None false = refl
+    next (Some x) b = refl
+
+pub newest_first : (ws : List Write) (c : ℕ) → option_map (λ (w : Write). w.value) (find (λ w. w.cell == c) (reverse ws)) ≡ newest ws c
+newest_first ws c = whole (option_map (λ (w : Write). w.value) (find (λ w. w.cell == c) (reverse ws))) ∙ sym (found_from None ws c)
+  where
+    whole : (o : Option ℕ) → o ≡ option_or o None
+    whole None = refl
+    whole (Some v) = refl
 
 -- A table of store buffers, one for each thread: its rows are what waits.
 pub queue_at : (bs : List StoreBuffer) (t : ℕ) (d : StoreBuffer) → t < length bs → slice_index_or (map row bs) t [] ≡ row (slice_index_or bs t d)
@@ -71,6 +51,12 @@ push_stores t c v m bs d b is lt e =
     let one : List Write = written m c v ∷ [] in
     let q : row b ≡ slice_index_or (map row bs) t [] ++ one = e ∙ ap (λ (ws : List Write). ws ++ one) (sym (queue_at bs t d lt)) in
     ap (waits_with m m.cells) (map-set row bs t b ∙ ap (set (map row bs) t) q ∙ ap (λ (qs : List (List Write)). set qs t (slice_index_or qs t [] ++ one)) (sym is))
+
+-- a buffer of t with the same row changes nothing
+pub same_rows : (t : ℕ) (m : Meaning) (bs : List StoreBuffer) (d b : StoreBuffer)
+    → m.waiting ≡ map row bs → t < length bs → row b ≡ row (slice_index_or bs t d) → with_rows m (slice_set bs t b) ≡ m
+same_rows t m bs d b is lt e =
+    ap (waits_with m m.cells) (map-set row bs t b ∙ ap (set (map row bs) t) (e ∙ sym (queue_at bs t d lt)) ∙ set-get_or (map row bs) t [] ∙ sym is)
 
 -- the oldest write taken out of the buffer of t and put into its cell is a landing
 pub take_lands : (t : ℕ) (m : Meaning) (bs : List StoreBuffer) (d b : StoreBuffer) (w : Write)

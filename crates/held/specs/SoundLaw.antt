@@ -3,7 +3,8 @@ use Rattle.std.specs.Prelude.{◌≡◌, ℕ, zero, suc, ◌+◌, ◌-◌, ◌<�
 use Rattle.std.proofs.Common.{◌∙◌, arith}
 use Rattle.std.specs.List.Sorted.{IsNonDecreasingBy}
 use Rattle.std.proofs.ByRecursion.{All-from_get_or}
-use Rattle.std.proofs.lemmas.List.{length-take-le, length-map, get_or_default}
+use Rattle.std.proofs.lemmas.List.{length-map, get_or_default}
+use Rattle.dated.proofs.FixedRows.{entries_length}
 use Rattle.held.specs.declared.Held.{Held}
 use Rattle.held.specs.declared.store_buffer.StoreBuffer.{StoreBuffer}
 use Rattle.memory.specs.declared.write.Write.{Write}
@@ -16,14 +17,13 @@ use Rattle.held.specs.StoreBuffer.{row}
 abbrev pub nil : Write
 nil = record { cell = 0; value = 0; date = 0 }
 
-pub row_length : (b : StoreBuffer) → length (row b) ≡ b.len
-unfolding row
-row_length b = length-take-le b.len b.writes (omega arith)
+pub row_length : (b : StoreBuffer) → length (row b) ≡ b.writes.len
+row_length b = entries_length b.writes
 
 -- no row is longer than a buffer
 pub rows_room : (bs : List StoreBuffer) (t : ℕ) → length (slice_index_or (map row bs) t []) ≤ 8
 rows_room [] t = omega arith
-rows_room (b ∷ bs) zero = rw (row_length b) b.within
+rows_room (b ∷ bs) zero = rw (row_length b) b.writes.within
 rows_room (b ∷ bs) (suc t) = rows_room bs t
 
 -- From the facts by index.

@@ -8,6 +8,7 @@ ghost use Rattle.held.specs.SoundLaw.{held_sound};
 
 use crate::Held;
 use crate::store_buffer::StoreBuffer;
+use memory::due::date_due;
 use memory::memory::Memory;
 use memory::refusal::Refusal;
 use memory::write::Write;
@@ -28,18 +29,11 @@ impl Held {
         })
     }
 
-    // Whether some write has waited as long as the bound allows. The dates of a thread never fall, so its oldest tells.
+    // What `memory::due::some_due` tells. That is not called here, since it would lead back to the impl that promises it.
     fn some_due(&self) -> bool
         ensures { result ≡ due (held self.now) }
     {
-        for buffer in &self.buffers {
-            if let Some(date) = buffer.oldest_date() {
-                if u64::from(date) + u64::from(self.bound) <= u64::from(self.clock) {
-                    return true;
-                }
-            }
-        }
-        false
+        self.buffers.iter().any(|buffer| date_due(buffer.oldest_date(), self.bound, self.clock))
     }
 }
 
@@ -60,12 +54,8 @@ impl Memory for Held {
             value,
             date: self.clock,
         };
-        let mut buffer = self.buffers[thread];
-        if !buffer.push(write) {
-            return Err(Refusal::BufferFull);
-        }
-        self.buffers[thread] = buffer;
-        Ok(())
+        let buffers = &mut self.buffers;
+        buffers[thread].push(write)
     }
 
     fn load(&mut self, thread: usize, cell: usize) -> Result<u64, Refusal>
@@ -75,10 +65,11 @@ impl Memory for Held {
         if thread >= 8 || cell >= 64 {
             return Err(Refusal::OutOfRange);
         }
-        match self.buffers[thread].newest(cell) {
-            Some(value) => Ok(value),
-            None => Ok(self.cells[cell]),
-        }
+        Ok(
+            self.buffers[thread]
+                .newest(cell)
+                .unwrap_or(self.cells[cell]),
+        )
     }
 
     fn land(&mut self, thread: usize) -> Result<(), Refusal>
@@ -88,15 +79,12 @@ impl Memory for Held {
         if thread >= 8 {
             return Err(Refusal::OutOfRange);
         }
-        let mut buffer = self.buffers[thread];
-        match buffer.take_oldest() {
-            Some(write) => {
-                self.buffers[thread] = buffer;
-                self.cells[write.cell] = write.value;
-                Ok(())
-            }
-            None => Err(Refusal::NothingWaiting),
-        }
+        let buffers = &mut self.buffers;
+        let Some(write) = buffers[thread].take_oldest() else {
+            return Err(Refusal::NothingWaiting);
+        };
+        self.cells[write.cell] = write.value;
+        Ok(())
     }
 
     fn exchange(&mut self, thread: usize, cell: usize, old: u64, new: u64) -> Result<bool, Refusal>

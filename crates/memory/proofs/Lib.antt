@@ -1,5 +1,6 @@
 pub mod Beginnings
 pub mod Carrying
+pub mod DueDates
 pub mod Dueness
 pub mod Emptiness
 pub mod Laws

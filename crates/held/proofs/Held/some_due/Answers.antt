@@ -1,33 +1,18 @@
-use Rattle.std.proofs.Common.{◌+◌, ◌<◌, Some, None, sym, ◌∙◌, arith, below_more}
-use Rattle.std.proofs.lemmas.Bool.{le-leb, lt-leb}
+use Rattle.std.proofs.Common.{◌≡◌, true, false, ap, arith, rules}
+use borrow.Author.Tests.{tests}
+use Rattle.std.proofs.lemmas.List.{length-map}
+use Rattle.std.proofs.lemmas.Iterator.{cases_from_any, YieldsList-from_slice}
 use Rattle.held.specs.Held.{held}
-use Rattle.held.proofs.HeldSound.{held_due}
 use Rattle.held.specs.SoundLaw.{held_sound}
-use Rattle.memory.proofs.Dueness.{oldest_none_due, oldest_some_due}
+use Rattle.held.specs.StoreBuffer.{row}
+use Rattle.held.proofs.HeldSound.{held_queue}
+use Rattle.memory.specs.Meaning.{date_of_first}
+use Rattle.memory.proofs.DueDates.{late, late_due}
 use Rattle.held.proofs.Held.some_due.Goals as goal
-use Rattle.held.proofs.Held.some_due.Goals.{in-Some+else-from, in_default}
-
-pub returns-then-from : goal.returns-then-from
-returns-then-from c =
-    let h = c.args.self.now in
-    let t = c.loop-buffer.buffer-index in
-    let lt : t < 8 = omega arith in
-    let late = le-leb (c.in-Some.date + h.bound) h.clock (omega arith) in
-    sym (oldest_some_due (held h) (held_sound h).rises t (rw (held_sound h).threads lt) (held_due h t c.buffer-item.result (Some c.in-Some.date) lt c.in-Some.ensures ∙ late))
-
-pub loop-buffer-preserved : goal.loop-buffer-preserved
-loop-buffer-preserved c =
-    let h = c.args.self.now in
-    let t = c.loop-buffer.buffer-index in
-    let lt : t < 8 = omega arith in
-    below_more _ _ c.loop-buffer.invariant
-    (elim c.match-oldest_date.branch [
-      | in-Some+else-from w ↦
-          held_due h t c.buffer-item.result (Some w.in-Some.date) lt w.in-Some.ensures ∙ lt-leb (w.in-Some.date + h.bound) h.clock (omega arith)
-      | in_default w ↦ held_due h t c.buffer-item.result None lt w.in_default.ensures
-    ])
 
 pub returns : goal.returns
 returns c =
     let h = c.args.self.now in
-    sym (oldest_none_due (held h) (held_sound h).rises (λ t lt. let eight = (held_sound h).threads in c.loop-buffer.invariant t (omega arith)))
+    let sound = held_sound h in
+    late_due h.buffers (λ b. date_of_first (row b)) (held h) sound.rises (length-map h.buffers row) (λ t d lt. ap date_of_first (held_queue h t d (omega arith))) c.any.result
+    (cases_from_any _ _ _ (λ b. late h.bound h.clock (date_of_first (row b)) ≡ true) (λ b. late h.bound h.clock (date_of_first (row b)) ≡ false) c.any.ensures.ran (YieldsList-from_slice h.buffers cc) (λ x q k. search (rules, tests)) (λ x q k. search (rules, tests)))

@@ -1,14 +1,8 @@
-use Rattle.std.proofs.Common.{arith}
-use Rattle.std.proofs.lemmas.Bool.Decides.{nat_tests}
-use Rattle.held.proofs.Rows.{newest_more, newest_all}
+use Rattle.std.proofs.Common.{List, ap, ◌∙◌}
+use Rattle.memory.specs.declared.write.Write.{Write}
+use Rattle.memory.specs.Meaning.{newest}
+use Rattle.held.proofs.Rows.{newest_first}
 use Rattle.held.proofs.store_buffer.StoreBuffer.newest.Goals as goal
-use Rattle.held.proofs.store_buffer.StoreBuffer.newest.Goals.{then-self-i, else-self-i}
-
-pub loop-i-preserved : goal.loop-i-preserved
-loop-i-preserved c =
-    newest_more c.args.self.now c.loop-i.i c.args.cell c.loop-i.found c.if-self-i.found _ c.loop-i-test.true
-    (elim c.if-self-i.branch [ then-self-i w ↦ grind (arith, nat_tests, w.found-is, w.if-self-i.true) | else-self-i w ↦ grind (arith, nat_tests, w.found-is, w.if-self-i.false) ])
-    c.loop-i.invariant
 
 pub returns : goal.returns
-returns c = newest_all c.args.self.now c.loop-i.i c.args.cell c.loop-i.found _ c.loop-i-test.false c.loop-i.invariant
+returns c = c.newest_value.ensures ∙ newest_first c.as_slice.result.now c.args.cell ∙ ap (λ (ws : List Write). newest ws c.args.cell) c.as_slice.ensures.entries
