@@ -2,7 +2,6 @@
 use Rattle.std.specs.Prelude.{◌≡◌, ℕ, ◌+◌, ◌<◌, ◌≤◌, false, List, [], ◌∷◌, ◌++◌, map, length, Some, None, Ok, Err, Option, Result, slice_index_or, slice_set, refl}
 use Rattle.std.proofs.Common.{sym, ap, subst, ◌∙◌, arith}
 use Rattle.std.specs.Option.{unwrap_or}
-use Rattle.std.specs.List.{AllByRecursion}
 use Rattle.std.proofs.ByRecursion.{All-get_or}
 use Rattle.std.proofs.lemmas.List.{length-map}
 use Rattle.held.specs.declared.Held.{Held}
@@ -10,6 +9,8 @@ use Rattle.held.specs.declared.store_buffer.StoreBuffer.{StoreBuffer}
 use Rattle.memory.specs.declared.refusal.Refusal.{Refusal}
 use Rattle.memory.specs.declared.write.Write.{Write}
 use Rattle.memory.specs.Calls.{Sound, Stores}
+use Rattle.memory.specs.declared.shared.Shared.{Shared}
+use Rattle.memory.specs.Shared.{shared_with, clock_of}
 use Rattle.held.specs.Held.{held}
 use Rattle.memory.specs.Meaning.{Meaning, queue, cell, waiting_count, newest, value_or, loaded, with_cell, written, stored, landed}
 use Rattle.held.specs.Queues.{DatesRise, DatesPast, InCells}
@@ -20,29 +21,19 @@ use Rattle.memory.proofs.Passing.{store_passes, store_full}
 use Rattle.memory.proofs.Soundness.{stored_sound, landed_sound}
 
 -- What `Sound` says gives the ghost facts.
-pub facts : (clock bound : ℕ) (cells : List ℕ) (bs : List StoreBuffer)
-    → Sound (record { clock = clock; cells = cells; bound = bound; self_landing = false; waiting = map row bs })
-    → record { places : length cells ≡ 64; threads : length bs ≡ 8; clock_end : clock ≤ 1000000; bound_low : 1 ≤ bound; bound_high : bound ≤ 1000; rises : DatesRise (map row bs); past : DatesPast clock (map row bs); in_cells : InCells (map row bs) }
-facts clock bound cells bs s =
-    record {
-      places = s.cells;
-      threads = sym (length-map bs row) ∙ s.threads;
-      clock_end = s.clock_end;
-      bound_low = s.bound_low;
-      bound_high = s.bound_high;
-      rises = rises;
-      past = past;
-      in_cells = in_cells;
-    }
+pub facts : (s : Shared) (bs : List StoreBuffer)
+    → Sound (shared_with s false (map row bs))
+    → record { threads : length bs ≡ 8; rises : DatesRise (map row bs); past : DatesPast (clock_of s) (map row bs); in_cells : InCells (map row bs) }
+facts s bs sound = record { threads = sym (length-map bs row) ∙ sound.threads; rises = rises; past = past; in_cells = in_cells }
   where
     rises : DatesRise (map row bs)
-    rises t i d lt = s.rises t i (i + d) nil (omega arith) lt
+    rises t i d lt = sound.rises t i (i + d) nil (omega arith) lt
 
-    past : DatesPast clock (map row bs)
-    past t i lt = All-get_or (λ (w : Write). w.date ≤ clock) (slice_index_or (map row bs) t []) i nil lt (s.past t)
+    past : DatesPast (clock_of s) (map row bs)
+    past t i lt = All-get_or (λ (w : Write). w.date ≤ clock_of s) (slice_index_or (map row bs) t []) i nil lt (sound.past t)
 
     in_cells : InCells (map row bs)
-    in_cells t i lt = All-get_or (λ (w : Write). w.cell < 64) (slice_index_or (map row bs) t []) i nil lt (s.in_cells t)
+    in_cells t i lt = All-get_or (λ (w : Write). w.cell < 64) (slice_index_or (map row bs) t []) i nil lt (sound.in_cells t)
 
 -- What waits for a thread, by its buffer.
 pub held_queue : (h : Held) (t : ℕ) (d : StoreBuffer) → t < 8 → queue (held h) t ≡ row (slice_index_or h.buffers t d)
@@ -94,11 +85,6 @@ pushed_stores L same h t c v d b (Err e) lt inside p =
 pub lands_sound : (h : Held) (t : ℕ) (d b : StoreBuffer) (w : Write)
     → t < 8 → row (slice_index_or h.buffers t d) ≡ w ∷ row b → Sound (with_cell (with_rows (held h) (slice_set h.buffers t b)) w.cell w.value)
 lands_sound h t d b w lt e = subst Sound (sym (held_lands h t d b w lt e)) (landed_sound t (held h) (held_sound h))
-
--- the oldest write is for a cell that there is
-pub oldest_in_cells : (h : Held) (t : ℕ) (d b : StoreBuffer) (w : Write)
-    → t < 8 → row (slice_index_or h.buffers t d) ≡ w ∷ row b → w.cell < 64
-oldest_in_cells h t d b w lt e = (subst (AllByRecursion (λ (x : Write). x.cell < 64)) (held_queue h t d lt ∙ e) ((held_sound h).in_cells t)).0
 
 -- what a thread loads, by what its buffer answered
 pub held_loads : (h : Held) (t c : ℕ) (d : StoreBuffer) (found : Option ℕ)

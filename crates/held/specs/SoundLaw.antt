@@ -38,13 +38,13 @@ rises_by qs h t i j d le lt =
 pub held_sound : (h : Held) → Sound (held h)
 held_sound h =
     record {
-      cells = h.places;
+      cells = h.shared.places;
       threads = length-map h.buffers row ∙ h.threads;
-      bound_low = h.bound_low;
-      bound_high = h.bound_high;
-      clock_end = h.clock_end;
+      bound_low = h.shared.bound_low;
+      bound_high = h.shared.bound_high;
+      clock_end = h.shared.clock_end;
       room = rows_room h.buffers;
       in_cells = λ t. All-from_get_or (λ (w : Write). w.cell < 64) (slice_index_or (map row h.buffers) t []) nil (h.in_cells t);
       rises = rises_by (map row h.buffers) h.rises;
-      past = λ t. All-from_get_or (λ (w : Write). w.date ≤ h.clock) (slice_index_or (map row h.buffers) t []) nil (h.past t);
+      past = λ t. All-from_get_or (λ (w : Write). w.date ≤ h.shared.clock) (slice_index_or (map row h.buffers) t []) nil (h.past t);
     }

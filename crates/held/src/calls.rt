@@ -10,7 +10,9 @@ use crate::Held;
 use crate::store_buffer::StoreBuffer;
 use memory::due::date_due;
 use memory::memory::Memory;
+use memory::range::{check_range, check_thread};
 use memory::refusal::Refusal;
+use memory::shared::Shared;
 use memory::write::Write;
 
 impl Held {
@@ -18,13 +20,8 @@ impl Held {
     pub fn new(bound: u32) -> Result<Held, Refusal>
         ensures { Made held false bound result }
     {
-        if bound < 1 || bound > 1000 {
-            return Err(Refusal::NotMade);
-        }
         Ok(Held {
-            clock: 0,
-            bound,
-            cells: [0; 64],
+            shared: Shared::new(bound)?,
             buffers: [StoreBuffer::new(); 8],
         })
     }
@@ -33,7 +30,10 @@ impl Held {
     fn some_due(&self) -> bool
         ensures { result ≡ due (held self.now) }
     {
-        self.buffers.iter().any(|buffer| date_due(buffer.oldest_date(), self.bound, self.clock))
+        let bound = self.shared.bound();
+        let clock = self.shared.clock();
+        let mut buffers = self.buffers.iter();
+        buffers.any(|buffer| date_due(buffer.oldest_date(), bound, clock))
     }
 }
 
@@ -46,14 +46,13 @@ impl Memory for Held {
         ensures call { Stores Lands thread cell value (held self.old) (held self.new) result }
         ensures exact { Stores Stays thread cell value (held self.old) (held self.new) result }
     {
-        if thread >= 8 || cell >= 64 {
-            return Err(Refusal::OutOfRange);
-        }
+        check_range(thread, cell)?;
         let write = Write {
             cell,
             value,
-            date: self.clock,
+            date: self.shared.clock(),
         };
+        // the array is borrowed first: the kit cannot check a call on an element of it through `self`
         let buffers = &mut self.buffers;
         buffers[thread].push(write)
     }
@@ -62,13 +61,11 @@ impl Memory for Held {
         ensures call { Loads Lands thread cell (held self.old) (held self.new) result }
         ensures exact { Loads Stays thread cell (held self.old) (held self.new) result }
     {
-        if thread >= 8 || cell >= 64 {
-            return Err(Refusal::OutOfRange);
-        }
+        check_range(thread, cell)?;
         Ok(
             self.buffers[thread]
                 .newest(cell)
-                .unwrap_or(self.cells[cell]),
+                .unwrap_or(self.shared.get(cell)),
         )
     }
 
@@ -76,14 +73,12 @@ impl Memory for Held {
         ensures call { LandsOne Lands thread (held self.old) (held self.new) result }
         ensures exact { LandsOne Stays thread (held self.old) (held self.new) result }
     {
-        if thread >= 8 {
-            return Err(Refusal::OutOfRange);
-        }
+        check_thread(thread)?;
         let buffers = &mut self.buffers;
         let Some(write) = buffers[thread].take_oldest() else {
             return Err(Refusal::NothingWaiting);
         };
-        self.cells[write.cell] = write.value;
+        self.shared.set(write.cell, write.value);
         Ok(())
     }
 
@@ -91,39 +86,27 @@ impl Memory for Held {
         ensures call { Exchanges Lands thread cell old new (held self.old) (held self.new) result }
         ensures exact { Exchanges Stays thread cell old new (held self.old) (held self.new) result }
     {
-        if thread >= 8 || cell >= 64 {
-            return Err(Refusal::OutOfRange);
-        }
+        check_range(thread, cell)?;
         if self.buffers[thread].len() > 0 {
             return Err(Refusal::WritesWaiting);
         }
-        if self.cells[cell] != old {
-            return Ok(false);
-        }
-        self.cells[cell] = new;
-        Ok(true)
+        Ok(self.shared.exchange(cell, old, new))
     }
 
     fn tick(&mut self) -> Result<(), Refusal>
         ensures call { Ticks Lands (held self.old) (held self.new) result }
         ensures exact { Ticks Stays (held self.old) (held self.new) result }
     {
-        if self.clock >= 1_000_000 {
-            return Err(Refusal::ClockAtEnd);
-        }
-        if self.some_due() {
-            return Err(Refusal::WriteDue);
-        }
-        self.clock += 1;
-        Ok(())
+        let write_due = self.some_due();
+        self.shared.tick(write_due)
     }
 
     fn clock(&self) -> u32 {
-        self.clock
+        self.shared.clock()
     }
 
     fn bound(&self) -> u32 {
-        self.bound
+        self.shared.bound()
     }
 
     fn self_landing(&self) -> bool {

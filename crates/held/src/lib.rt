@@ -4,24 +4,20 @@
 pub mod calls;
 mod store_buffer;
 
-ghost use Rattle.std.specs.Prelude.{◌≡◌, ◌≤◌, map, length};
+ghost use Rattle.std.specs.Prelude.{◌≡◌, map, length};
+ghost use Rattle.memory.specs.Shared.{clock_of};
 ghost use Rattle.held.specs.Queues.{DatesRise, DatesPast, InCells};
 ghost use Rattle.held.specs.StoreBuffer.{row};
 
 use crate::store_buffer::StoreBuffer;
+use memory::shared::Shared;
 
 #[derive(Clone, Copy)]
 pub struct Held {
-    clock: u32,
-    bound: u32,
-    cells: [u64; 64],
+    shared: Shared,
     buffers: [StoreBuffer; 8],
-    ghost places: { length cells ≡ 64 },
     ghost threads: { length buffers ≡ 8 },
-    ghost clock_end: { clock ≤ 1000000 },
-    ghost bound_low: { 1 ≤ bound },
-    ghost bound_high: { bound ≤ 1000 },
     ghost rises: { DatesRise (map row buffers) },
-    ghost past: { DatesPast clock (map row buffers) },
+    ghost past: { DatesPast (clock_of shared) (map row buffers) },
     ghost in_cells: { InCells (map row buffers) },
 }

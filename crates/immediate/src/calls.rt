@@ -7,20 +7,17 @@ ghost use Rattle.std.proofs.Common.{rules};
 
 use crate::Immediate;
 use memory::memory::Memory;
+use memory::range::{check_range, check_thread};
 use memory::refusal::Refusal;
+use memory::shared::Shared;
 
 impl Immediate {
     // A new memory; refused unless the bound is 1 to 1,000.
     pub fn new(bound: u32) -> Result<Immediate, Refusal>
         ensures { Made immediate true bound result }
     {
-        if bound < 1 || bound > 1000 {
-            return Err(Refusal::NotMade);
-        }
         Ok(Immediate {
-            clock: 0,
-            bound,
-            cells: [0; 64],
+            shared: Shared::new(bound)?,
         })
     }
 }
@@ -34,10 +31,8 @@ impl Memory for Immediate {
         ensures call { Stores Lands thread cell value (immediate self.old) (immediate self.new) result }
         ensures exact { Stores (LandsOf thread) thread cell value (immediate self.old) (immediate self.new) result }
     {
-        if thread >= 8 || cell >= 64 {
-            return Err(Refusal::OutOfRange);
-        }
-        self.cells[cell] = value;
+        check_range(thread, cell)?;
+        self.shared.set(cell, value);
         Ok(())
     }
 
@@ -45,19 +40,15 @@ impl Memory for Immediate {
         ensures call { Loads Lands thread cell (immediate self.old) (immediate self.new) result }
         ensures exact { Loads Stays thread cell (immediate self.old) (immediate self.new) result }
     {
-        if thread >= 8 || cell >= 64 {
-            return Err(Refusal::OutOfRange);
-        }
-        Ok(self.cells[cell])
+        check_range(thread, cell)?;
+        Ok(self.shared.get(cell))
     }
 
     fn land(&mut self, thread: usize) -> Result<(), Refusal>
         ensures call { LandsOne Lands thread (immediate self.old) (immediate self.new) result }
         ensures exact { LandsOne Stays thread (immediate self.old) (immediate self.new) result }
     {
-        if thread >= 8 {
-            return Err(Refusal::OutOfRange);
-        }
+        check_thread(thread)?;
         Err(Refusal::NothingWaiting)
     }
 
@@ -65,33 +56,24 @@ impl Memory for Immediate {
         ensures call { Exchanges Lands thread cell old new (immediate self.old) (immediate self.new) result }
         ensures exact { Exchanges Stays thread cell old new (immediate self.old) (immediate self.new) result }
     {
-        if thread >= 8 || cell >= 64 {
-            return Err(Refusal::OutOfRange);
-        }
-        if self.cells[cell] != old {
-            return Ok(false);
-        }
-        self.cells[cell] = new;
-        Ok(true)
+        check_range(thread, cell)?;
+        Ok(self.shared.exchange(cell, old, new))
     }
 
     fn tick(&mut self) -> Result<(), Refusal>
         ensures call { Ticks Lands (immediate self.old) (immediate self.new) result }
         ensures exact { Ticks Stays (immediate self.old) (immediate self.new) result }
     {
-        if self.clock >= 1_000_000 {
-            return Err(Refusal::ClockAtEnd);
-        }
-        self.clock += 1;
-        Ok(())
+        // no write ever waits
+        self.shared.tick(false)
     }
 
     fn clock(&self) -> u32 {
-        self.clock
+        self.shared.clock()
     }
 
     fn bound(&self) -> u32 {
-        self.bound
+        self.shared.bound()
     }
 
     fn self_landing(&self) -> bool {

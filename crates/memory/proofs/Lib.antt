@@ -6,6 +6,7 @@ pub mod Emptiness
 pub mod Laws
 pub mod Passing
 pub mod Performing
+pub mod Sharing
 pub mod Soundness
 pub mod Standing
 pub mod Views

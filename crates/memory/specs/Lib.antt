@@ -4,3 +4,4 @@ pub mod History
 pub mod Landings
 pub mod Meaning
 pub mod Number
+pub mod Shared

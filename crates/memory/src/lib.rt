@@ -4,6 +4,8 @@
 pub mod due;
 pub mod memory;
 pub mod newness;
+pub mod range;
 pub mod refusal;
 pub mod run;
+pub mod shared;
 pub mod write;

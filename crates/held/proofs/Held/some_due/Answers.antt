@@ -15,4 +15,4 @@ returns c =
     let h = c.args.self.now in
     let sound = held_sound h in
     late_due h.buffers (λ b. date_of_first (row b)) (held h) sound.rises (length-map h.buffers row) (λ t d lt. ap date_of_first (held_queue h t d (omega arith))) c.any.result
-    (cases_from_any _ _ _ (λ b. late h.bound h.clock (date_of_first (row b)) ≡ true) (λ b. late h.bound h.clock (date_of_first (row b)) ≡ false) c.any.ensures.ran (YieldsList-from_slice h.buffers cc) (λ x q k. search (rules, tests)) (λ x q k. search (rules, tests)))
+    (cases_from_any _ _ _ (λ b. late h.shared.bound h.shared.clock (date_of_first (row b)) ≡ true) (λ b. late h.shared.bound h.shared.clock (date_of_first (row b)) ≡ false) c.any.ensures.ran (YieldsList-from_slice h.buffers cc) (λ x q k. search (rules, tests)) (λ x q k. search (rules, tests)))

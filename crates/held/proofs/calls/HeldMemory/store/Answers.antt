@@ -8,16 +8,18 @@ use Rattle.held.proofs.calls.HeldMemory.store.Goals as goal
 pub invariant_of-self : goal.invariant_of-self
 invariant_of-self c =
     let h = c.args.self.now in
-    facts h.clock h.bound h.cells (set h.buffers c.args.thread c.push.new.self)
-    (pushed_sound h c.args.thread c.args.cell c.args.value c.index-buffers-thread.result c.push.new.self c.push.result (omega arith) (omega arith) c.push.ensures)
+    let pushed = rw c.clock.ensures at c.push.ensures in
+    facts h.shared (set h.buffers c.args.thread c.push.new.self)
+    (pushed_sound h c.args.thread c.args.cell c.args.value c.index-buffers-thread.result c.push.new.self c.push.result (omega arith) (omega arith) pushed)
 
 pub returns : goal.returns
 returns c =
     let h = c.args.self.now in
+    let pushed = rw c.clock.ensures at c.push.ensures in
     let t = c.args.thread in
     let lt : t < 8 = omega arith in
     let inside : c.args.cell < 64 = omega arith in
     record {
-      call = pushed_stores Lands (λ m m' e. lands_same e) h t c.args.cell c.args.value c.index-buffers-thread.result c.push.new.self c.push.result lt inside c.push.ensures;
-      exact = pushed_stores Stays (λ m m' e. e) h t c.args.cell c.args.value c.index-buffers-thread.result c.push.new.self c.push.result lt inside c.push.ensures;
+      call = pushed_stores Lands (λ m m' e. lands_same e) h t c.args.cell c.args.value c.index-buffers-thread.result c.push.new.self c.push.result lt inside pushed;
+      exact = pushed_stores Stays (λ m m' e. e) h t c.args.cell c.args.value c.index-buffers-thread.result c.push.new.self c.push.result lt inside pushed;
     }

@@ -1,15 +1,17 @@
-use Rattle.std.proofs.Common.{refl, rules}
+use Rattle.std.proofs.Common.{true, false, [], replicate, refl}
 use Rattle.immediate.specs.Immediate.{immediate}
-use Rattle.memory.specs.Meaning.{ticked}
 use Rattle.immediate.proofs.ImmediateLands.{idle_due}
+use Rattle.memory.specs.Calls.{Stays}
+use Rattle.memory.specs.Landings.{Lands}
+use Rattle.memory.proofs.Sharing.{shared_ticks}
 use Rattle.memory.proofs.Views.{lands_none}
 use Rattle.immediate.proofs.calls.ImmediateMemory.tick.Goals as goal
 
 pub returns : goal.returns
-unfolding ticked
 returns c =
     let m = immediate c.args.self.now in
+    let ticks = c.tick.ensures true (replicate 8 []) in
     record {
-      call = record { passes = search rules; does = record { between = m; lands = lands_none m; none_due = idle_due m refl; is = refl } };
-      exact = record { passes = search rules; does = record { between = m; lands = refl; none_due = idle_due m refl; is = refl } };
+      call = shared_ticks Lands lands_none false m _ c.tick.result (idle_due m refl) refl ticks;
+      exact = shared_ticks Stays (λ m. refl) false m _ c.tick.result (idle_due m refl) refl ticks;
     }
