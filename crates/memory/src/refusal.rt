@@ -5,19 +5,19 @@ ghost use Rattle.memory.specs.Number.{number};
 #[derive(Clone, Copy, PartialEq, Eq, Debug)]
 pub enum Refusal {
     // the thread is not below 8, or the cell not below 64
-    OutOfRange,
+    OutOfRange = 1,
     // 8 writes of the thread wait already
-    BufferFull,
+    BufferFull = 2,
     // land: no write of the thread waits
-    NothingWaiting,
+    NothingWaiting = 3,
     // exchange: a write of the thread waits
-    WritesWaiting,
+    WritesWaiting = 4,
     // tick: a write would wait longer than the bound
-    WriteDue,
+    WriteDue = 5,
     // tick: the clock has reached its end
-    ClockAtEnd,
+    ClockAtEnd = 6,
     // a bound or limit out of range, or a layer over a memory that is not new
-    NotMade,
+    NotMade = 7,
 }
 
 impl Refusal {
@@ -25,14 +25,6 @@ impl Refusal {
     pub fn number(self) -> u8
         ensures { result ≡ number self }
     {
-        match self {
-            Refusal::OutOfRange => 1,
-            Refusal::BufferFull => 2,
-            Refusal::NothingWaiting => 3,
-            Refusal::WritesWaiting => 4,
-            Refusal::WriteDue => 5,
-            Refusal::ClockAtEnd => 6,
-            Refusal::NotMade => 7,
-        }
+        self as u8
     }
 }

@@ -4,22 +4,22 @@ ghost use Rattle.protocol.specs.Codes.{code_of, value_of, number_of};
 
 #[derive(Clone, Copy, PartialEq, Eq, Debug)]
 pub enum Refusal {
-    AlreadySetUp,
-    SettingsOutOfRange,
-    MemoryNotNew,
-    NotSetUp,
-    CallsUsedUp,
-    NoSuchThread,
-    TickRefused,
-    NothingWaiting,
-    ThreadBusy,
-    BadOperation,
-    GuardOrNode,
-    ListFull,
-    WrongSide,
-    ThreadIdle,
-    BufferFull,
-    WritesWaiting,
+    AlreadySetUp = 11,
+    SettingsOutOfRange = 12,
+    MemoryNotNew = 13,
+    NotSetUp = 14,
+    CallsUsedUp = 15,
+    NoSuchThread = 16,
+    TickRefused = 17,
+    NothingWaiting = 18,
+    ThreadBusy = 19,
+    BadOperation = 20,
+    GuardOrNode = 21,
+    ListFull = 22,
+    WrongSide = 23,
+    ThreadIdle = 24,
+    BufferFull = 25,
+    WritesWaiting = 26,
 }
 
 #[derive(Clone, Copy, PartialEq, Eq, Debug)]
@@ -43,24 +43,7 @@ impl Refusal {
     pub fn number(self) -> u64
         ensures { result ≡ number_of self }
     {
-        match self {
-            Refusal::AlreadySetUp => 11,
-            Refusal::SettingsOutOfRange => 12,
-            Refusal::MemoryNotNew => 13,
-            Refusal::NotSetUp => 14,
-            Refusal::CallsUsedUp => 15,
-            Refusal::NoSuchThread => 16,
-            Refusal::TickRefused => 17,
-            Refusal::NothingWaiting => 18,
-            Refusal::ThreadBusy => 19,
-            Refusal::BadOperation => 20,
-            Refusal::GuardOrNode => 21,
-            Refusal::ListFull => 22,
-            Refusal::WrongSide => 23,
-            Refusal::ThreadIdle => 24,
-            Refusal::BufferFull => 25,
-            Refusal::WritesWaiting => 26,
-        }
+        self as u64
     }
 }
 
