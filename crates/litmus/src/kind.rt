@@ -1,11 +1,14 @@
 // The three memories, and a run of calls on a new one of them.
+ghost use Rattle.std.specs.Prelude.{◌≡◌};
+ghost use Rattle.litmus.specs.declared.kind.Failure.TheVariants.{NotMade, NotRun};
 ghost use Rattle.litmus.specs.Test.{begun, Obeys, Layered};
 
 use held::Held;
 use immediate::Immediate;
 use memory::memory::Memory;
+use memory::refusal::Refusal;
 use memory::run::{Answer, Call, RunFault, run};
-use quiescing::Quiescing;
+use quiescing::{Quiescing, Unmade};
 use std::alloc::Global;
 use std::error::Error;
 use std::fmt;
@@ -30,66 +33,74 @@ impl fmt::Display for Kind {
 #[derive(Clone, Copy, Debug)]
 pub enum Failure {
     NotMade,
-    NotNew,
-    NoMemory,
+    NotRun(RunFault),
 }
 
 impl fmt::Display for Failure {
     fn fmt<W: fmt::Write>(&self, f: &mut fmt::Formatter<W>) -> fmt::Result {
         match self {
             Failure::NotMade => write!(f, "the memory was not made"),
-            Failure::NotNew => write!(f, "the memory is not new"),
-            Failure::NoMemory => write!(f, "no memory for the answers"),
+            Failure::NotRun(fault) => write!(f, "{fault}"),
         }
     }
 }
 
 impl Error for Failure {}
 
+impl From<Refusal> for Failure {
+    ghost from_gives = { λ _ failure. failure ≡ NotMade };
+
+    fn from(_refusal: Refusal) -> Failure {
+        Self::NotMade
+    }
+}
+
+impl<M: Drop> From<Unmade<M>> for Failure {
+    ghost from_gives = { λ _ failure. failure ≡ NotMade };
+
+    fn from(unmade: Unmade<M>) -> Failure {
+        Failure::from(unmade.refusal)
+    }
+}
+
+impl From<RunFault> for Failure {
+    ghost from_gives = { λ fault failure. failure ≡ NotRun fault };
+
+    fn from(fault: RunFault) -> Failure {
+        Self::NotRun(fault)
+    }
+}
+
 // Carries out the calls on the memory that was made.
 fn carried<M: Memory + Drop>(
     heap: Global,
     mut memory: M,
     calls: &[Call],
-) -> Result<Vec<Answer>, Failure>
+) -> Result<Vec<Result<Answer, Refusal>>, Failure>
     ensures { Obeys (M.meaning memory) calls.now result }
 {
-    match run(heap, &mut memory, calls) {
-        Ok(answers) => Ok(answers),
-        Err(RunFault::NotNew) => Err(Failure::NotNew),
-        Err(RunFault::NoMemory) => Err(Failure::NoMemory),
-    }
+    Ok(run(heap, &mut memory, calls)?)
 }
 
 // A layer with limit 2 over a held memory with bound 3.
 fn layered() -> Result<Quiescing<Held>, Failure>
     ensures { Layered result }
 {
-    match Held::new(3) {
-        Ok(held) => match Quiescing::new(held, 2) {
-            Ok(layer) => Ok(layer),
-            Err(_) => Err(Failure::NotMade),
-        },
-        Err(_) => Err(Failure::NotMade),
-    }
+    let held = Held::new(3)?;
+    Ok(Quiescing::new(held, 2)?)
 }
 
 // Carries out the calls on a new memory of the kind, whose bound is 2.
-pub fn run_on(heap: Global, kind: Kind, calls: &[Call]) -> Result<Vec<Answer>, Failure>
+pub fn run_on(
+    heap: Global,
+    kind: Kind,
+    calls: &[Call],
+) -> Result<Vec<Result<Answer, Refusal>>, Failure>
     ensures { Obeys (begun kind) calls.now result }
 {
     match kind {
-        Kind::Held => match Held::new(2) {
-            Ok(held) => carried(heap, held, calls),
-            Err(_) => Err(Failure::NotMade),
-        },
-        Kind::Immediate => match Immediate::new(2) {
-            Ok(immediate) => carried(heap, immediate, calls),
-            Err(_) => Err(Failure::NotMade),
-        },
-        Kind::Quiescing => match layered() {
-            Ok(layer) => carried(heap, layer, calls),
-            Err(failure) => Err(failure),
-        },
+        Kind::Held => carried(heap, Held::new(2)?, calls),
+        Kind::Immediate => carried(heap, Immediate::new(2)?, calls),
+        Kind::Quiescing => carried(heap, layered()?, calls),
     }
 }

@@ -8,18 +8,14 @@ mod test;
 
 use kind::{Kind, run_on};
 use observed::Observed;
-use shown::Line;
+use shown::Shown;
 use test::{CALLS, both_zero_orders};
 
 fn show(rt: &HostRuntime, kind: Kind) -> anyhow::Result<()> {
     println!(rt; "{kind}")?;
     let answers = run_on(rt.alloc(), kind, &CALLS)?;
     for (call, answer) in CALLS.iter().zip(answers.iter()) {
-        let line = Line {
-            call: *call,
-            answer: *answer,
-        };
-        println!(rt; "  {line}")?;
+        println!(rt; "  {}: {}", Shown(*call), Shown(*answer))?;
     }
     let observed = Observed::of(&CALLS, answers.as_slice());
     let orders = both_zero_orders(rt.alloc(), kind)?;
@@ -28,13 +24,10 @@ fn show(rt: &HostRuntime, kind: Kind) -> anyhow::Result<()> {
     Ok(())
 }
 
-fn all(rt: &HostRuntime) -> anyhow::Result<()> {
-    println!(rt; "store-buffering test, bound 2")?;
-    show(rt, Kind::Held)?;
-    show(rt, Kind::Immediate)?;
-    show(rt, Kind::Quiescing)
-}
-
 fn main(rt: HostRuntime) -> anyhow::Result<()> {
-    all(&rt)
+    println!(rt; "store-buffering test, bound 2")?;
+    for kind in [Kind::Held, Kind::Immediate, Kind::Quiescing] {
+        show(&rt, kind)?;
+    }
+    Ok(())
 }

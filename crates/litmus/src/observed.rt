@@ -1,52 +1,65 @@
 // What the answers of the test show.
+use memory::refusal::Refusal;
 use memory::run::{Answer, Call};
 use std::fmt;
 
 #[derive(Clone, Copy)]
 pub struct Observed {
     // loads before the first tick that answered 0
-    early_zeros: u32,
-    ticks_refused: u32,
+    early_zeros: usize,
+    ticks_refused: usize,
     // a tick was taken after one was refused
     taken_later: bool,
     // landings that were told and done
-    told_landings: u32,
-    ticked: bool,
+    told_landings: usize,
 }
 
 impl Observed {
-    pub(crate) fn of(calls: &[Call], answers: &[Answer]) -> Observed {
-        let mut observed = Observed {
-            early_zeros: 0,
-            ticks_refused: 0,
-            taken_later: false,
-            told_landings: 0,
-            ticked: false,
-        };
-        for (call, answer) in calls.iter().zip(answers.iter()) {
-            observed.note(*call, *answer);
+    pub(crate) fn of(calls: &[Call], answers: &[Result<Answer, Refusal>]) -> Observed {
+        let early_zeros = calls
+            .iter()
+            .zip(answers.iter())
+            .take_while(|(call, answer)| !taken(**call, **answer))
+            .filter(|(call, answer)| zero_loaded(**call, **answer))
+            .count();
+        let ticks_refused = calls
+            .iter()
+            .zip(answers.iter())
+            .filter(|(call, answer)| refused(**call, **answer))
+            .count();
+        let taken_later = calls
+            .iter()
+            .zip(answers.iter())
+            .skip_while(|(call, answer)| !refused(**call, **answer))
+            .any(|(call, answer)| taken(*call, *answer));
+        let told_landings = calls
+            .iter()
+            .zip(answers.iter())
+            .filter(|(call, answer)| landed(**call, **answer))
+            .count();
+        Observed {
+            early_zeros,
+            ticks_refused,
+            taken_later,
+            told_landings,
         }
-        observed
     }
+}
 
-    fn note(&mut self, call: Call, answer: Answer) {
-        match (call, answer) {
-            (Call::Load { thread: _, cell: _ }, Answer::Value(0)) if !self.ticked => {
-                self.early_zeros = self.early_zeros.saturating_add(1);
-            }
-            (Call::Land { thread: _ }, Answer::Done) => {
-                self.told_landings = self.told_landings.saturating_add(1);
-            }
-            (Call::Tick, Answer::Refused(_)) => {
-                self.ticks_refused = self.ticks_refused.saturating_add(1);
-            }
-            (Call::Tick, _) => {
-                self.ticked = true;
-                self.taken_later = self.ticks_refused > 0;
-            }
-            _ => {}
-        }
-    }
+fn taken(call: Call, answer: Result<Answer, Refusal>) -> bool {
+    call == Call::Tick && answer.is_ok()
+}
+
+fn refused(call: Call, answer: Result<Answer, Refusal>) -> bool {
+    call == Call::Tick && answer.is_err()
+}
+
+fn zero_loaded(call: Call, answer: Result<Answer, Refusal>) -> bool {
+    matches!(call, Call::Load { thread: _, cell: _ }) && answer == Ok(Answer::Value(0))
+}
+
+fn landed(call: Call, answer: Result<Answer, Refusal>) -> bool {
+    matches!(call, Call::Land { thread: _ }) && answer.is_ok()
 }
 
 impl fmt::Display for Observed {

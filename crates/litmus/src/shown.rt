@@ -1,45 +1,42 @@
-// A call with its answer, as a line.
+// A call, and what it was answered, as a line shows them.
 use memory::refusal::Refusal;
 use memory::run::{Answer, Call};
 use std::fmt;
 
 #[derive(Clone, Copy)]
-pub struct Line {
-    pub call: Call,
-    pub answer: Answer,
-}
+pub struct Shown<T>(pub T);
 
-impl fmt::Display for Line {
+impl fmt::Display for Shown<Call> {
     fn fmt<W: fmt::Write>(&self, f: &mut fmt::Formatter<W>) -> fmt::Result {
-        match self.call {
+        match self.0 {
             Call::Store {
                 thread,
                 cell,
                 value,
-            } => write!(f, "thread {thread} stores {value} to cell {cell}: ")?,
-            Call::Load { thread, cell } => write!(f, "thread {thread} loads cell {cell}: ")?,
-            Call::Land { thread } => write!(f, "thread {thread} lands its oldest write: ")?,
+            } => write!(f, "thread {thread} stores {value} to cell {cell}"),
+            Call::Load { thread, cell } => write!(f, "thread {thread} loads cell {cell}"),
+            Call::Land { thread } => write!(f, "thread {thread} lands its oldest write"),
             Call::Exchange {
                 thread,
                 cell,
                 old,
                 new,
-            } => {
-                write!(
-                    f,
-                    "thread {thread} exchanges {old} for {new} in cell {cell}: "
-                )?
-            }
-            Call::Tick => write!(f, "tick: ")?,
+            } => write!(
+                f,
+                "thread {thread} exchanges {old} for {new} in cell {cell}"
+            ),
+            Call::Tick => write!(f, "tick"),
         }
-        match self.answer {
-            Answer::Done => write!(f, "done"),
-            Answer::Value(value) => write!(f, "{value}"),
-            Answer::Swapped(done) => write!(f, "{done}"),
-            Answer::Refused(refusal) => {
-                let number = refusal.number();
-                write!(f, "refused {number}")
-            }
+    }
+}
+
+impl fmt::Display for Shown<Result<Answer, Refusal>> {
+    fn fmt<W: fmt::Write>(&self, f: &mut fmt::Formatter<W>) -> fmt::Result {
+        match self.0 {
+            Ok(Answer::Done) => write!(f, "done"),
+            Ok(Answer::Value(value)) => write!(f, "{value}"),
+            Ok(Answer::Swapped(done)) => write!(f, "{done}"),
+            Err(refusal) => write!(f, "refused {}", refusal.number()),
         }
     }
 }

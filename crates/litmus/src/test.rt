@@ -52,14 +52,12 @@ pub(crate) fn both_zero_orders(heap: Global, kind: Kind) -> Result<usize, Failur
     let mut both = 0usize;
     for order in ORDERS {
         let answers = run_on(heap, kind, &order)?;
-        let mut zeros = 0usize;
-        for answer in answers.iter() {
-            if *answer == Answer::Value(0) {
-                zeros = zeros.saturating_add(1);
-            }
-        }
+        let zeros = answers
+            .iter()
+            .filter(|answer| **answer == Ok(Answer::Value(0)))
+            .count();
         if zeros == 2 {
-            both = both.saturating_add(1);
+            both += 1;
         }
     }
     Ok(both)

@@ -1,5 +1,5 @@
 -- Every run of a memory from new keeps the laws, and every load and exchange in it is true. Assumes nothing.
-use Rattle.std.proofs.Common.{◌≡◌, ℕ, zero, suc, ◌+◌, ◌≤◌, Bool, List, [], ◌∷◌, ◌++◌, length, get_or, drop, replicate, sym, refl, ap, ◌∙◌, arith}
+use Rattle.std.proofs.Common.{◌≡◌, ℕ, zero, suc, ◌+◌, ◌≤◌, Bool, List, [], ◌∷◌, ◌++◌, length, get_or, drop, replicate, Err, sym, refl, ap, ◌∙◌, arith}
 use Rattle.std.proofs.ByRecursion.{All-weaker}
 use Rattle.std.proofs.lemmas.List.{append-nil, drop_at}
 use Rattle.std.proofs.lemmas.List.Sorted.{IsNonDecreasingBy-short}
@@ -7,7 +7,6 @@ use Rattle.memory.specs.declared.write.Write.{Write}
 use Rattle.memory.specs.declared.refusal.Refusal.{Refusal}
 use Rattle.memory.specs.declared.run.Call.{Call}
 use Rattle.memory.specs.declared.run.Call.TheVariants.{Store, Load, Land, Exchange, Tick}
-use Rattle.memory.specs.declared.run.Answer.TheVariants.{Refused}
 use Rattle.memory.specs.Meaning.{Meaning, queue, fresh, loaded}
 use Rattle.memory.specs.Landings.{Landing, LandsAs}
 use Rattle.memory.specs.History.{Event, Happens, refuses, stores, loads, lands, exchanges, ticks, New, Run, clock_in, ticks_of, stores_in, store_of, landed_in, writes_of, value_in, after_exchange, after_landings, TrueAnswer, Lawful, Always}
@@ -33,21 +32,21 @@ same_stands {m = m} a b c d s =
     }
 
 -- a refused call stores nothing, exchanges nothing and moves no clock
-refused_store : (t d : ℕ) (c : Call) (e : Refusal) → store_of t d c (Refused e) ≡ []
+refused_store : (t d : ℕ) (c : Call) (e : Refusal) → store_of t d c (Err e) ≡ []
 refused_store t d (Store u x v) e = refl
 refused_store t d (Load u x) e = refl
 refused_store t d (Land u) e = refl
 refused_store t d (Exchange u x old new) e = refl
 refused_store t d Tick e = refl
 
-refused_exchange : (c : Call) (e : Refusal) (x v : ℕ) → after_exchange c (Refused e) x v ≡ v
+refused_exchange : (c : Call) (e : Refusal) (x v : ℕ) → after_exchange c (Err e) x v ≡ v
 refused_exchange (Store u y w) e x v = refl
 refused_exchange (Load u y) e x v = refl
 refused_exchange (Land u) e x v = refl
 refused_exchange (Exchange u y old new) e x v = refl
 refused_exchange Tick e x v = refl
 
-refused_tick : (c : Call) (e : Refusal) → ticks_of c (Refused e) ≡ 0
+refused_tick : (c : Call) (e : Refusal) → ticks_of c (Err e) ≡ 0
 refused_tick (Store u x v) e = refl
 refused_tick (Load u x) e = refl
 refused_tick (Land u) e = refl
@@ -86,7 +85,7 @@ happens_stands h m m' e (ticks {ls} between p l own none is) s =
     rw is (same_stands (λ u. append-nil (stores_in h u)) (λ u. refl) (λ d. refl) refl now)
 
 -- every load and exchange is true
-refused_load : (h : List Event) (c : Call) (e : Refusal) → TrueAnswer h [] c (Refused e)
+refused_load : (h : List Event) (c : Call) (e : Refusal) → TrueAnswer h [] c (Err e)
 refused_load h (Store u x v) e = tt
 refused_load h (Load u x) e = tt
 refused_load h (Land u) e = tt

@@ -8,20 +8,24 @@ use Rattle.memory.specs.declared.refusal.Refusal.{Refusal}
 use Rattle.memory.specs.declared.run.Call.{Call}
 use Rattle.memory.specs.declared.run.Call.TheVariants.{Store, Load, Land, Exchange, Tick}
 use Rattle.memory.specs.declared.run.Answer.{Answer}
-use Rattle.memory.specs.declared.run.Answer.TheVariants.{Done, Value, Swapped, Refused}
+use Rattle.memory.specs.declared.run.Answer.TheVariants.{Done, Value, Swapped}
 use Rattle.memory.specs.declared.run.RunFault.{RunFault}
 use Rattle.memory.specs.declared.run.RunFault.TheVariants.{NotNew, NoMemory}
 use Rattle.memory.specs.Meaning.{Meaning, queue, cell, fresh, is_new, newest, value_or, loaded, stored, exchanged, ticked, due}
 use Rattle.memory.specs.Landings.{Landing, LandsAs}
 use Rattle.memory.specs.Checks.{Check, first_no, store_checks, load_checks, land_checks, exchange_checks, tick_checks}
 
+-- what a call is answered: an answer, or why it was refused
+abbrev pub Outcome : Type 0
+Outcome = Result Answer Refusal
+
 -- one call with its answer, and the writes that landed in it, in their order, told or by the memory itself
 pub record Event : Type 0 where
   pub call : Call
-  pub answer : Answer
+  pub answer : Outcome
   pub landings : List Landing
 
-abbrev pub event : Call → Answer → List Landing → Event
+abbrev pub event : Call → Outcome → List Landing → Event
 event c a ls = record { call = c; answer = a; landings = ls }
 
 abbrev pub checks_of : Call → Meaning → List (Check Refusal)
@@ -37,15 +41,15 @@ Own m ls = m.self_landing ≡ false → ls ≡ []
 
 -- the event leads from m to m'
 pub data Happens (m m' : Meaning) : Event → Type 0 where
-  refuses : {c : Call} {e : Refusal} → first_no (checks_of c m) ≡ Some e → m' ≡ m → Happens m m' (event c (Refused e) [])
-  stores : {t c v : ℕ} {ls : List Landing} → first_no (store_checks t c m) ≡ None → LandsAs ls (stored t c v m) m' → Own m ls → Happens m m' (event (Store t c v) Done ls)
-  loads : {t c v : ℕ} {ls : List Landing} → first_no (load_checks t c) ≡ None → LandsAs ls m m' → Own m ls → v ≡ loaded m' t c → Happens m m' (event (Load t c) (Value v) ls)
-  lands : {t : ℕ} {l : Landing} {ls : List Landing} → first_no (land_checks t m) ≡ None → l.thread ≡ t → LandsAs (l ∷ ls) m m' → Own m ls → Happens m m' (event (Land t) Done (l ∷ ls))
-  exchanges : {t c old new : ℕ} {done : Bool} {ls : List Landing} → (between : Meaning) → first_no (exchange_checks t c m) ≡ None → LandsAs ls m between → Own m ls → done ≡ (cell between c == old) → m' ≡ exchanged c old new between → Happens m m' (event (Exchange t c old new) (Swapped done) ls)
-  ticks : {ls : List Landing} → (between : Meaning) → first_no (tick_checks m) ≡ None → LandsAs ls m between → Own m ls → due between ≡ false → m' ≡ ticked between → Happens m m' (event Tick Done ls)
+  refuses : {c : Call} {e : Refusal} → first_no (checks_of c m) ≡ Some e → m' ≡ m → Happens m m' (event c (Err e) [])
+  stores : {t c v : ℕ} {ls : List Landing} → first_no (store_checks t c m) ≡ None → LandsAs ls (stored t c v m) m' → Own m ls → Happens m m' (event (Store t c v) (Ok Done) ls)
+  loads : {t c v : ℕ} {ls : List Landing} → first_no (load_checks t c) ≡ None → LandsAs ls m m' → Own m ls → v ≡ loaded m' t c → Happens m m' (event (Load t c) (Ok (Value v)) ls)
+  lands : {t : ℕ} {l : Landing} {ls : List Landing} → first_no (land_checks t m) ≡ None → l.thread ≡ t → LandsAs (l ∷ ls) m m' → Own m ls → Happens m m' (event (Land t) (Ok Done) (l ∷ ls))
+  exchanges : {t c old new : ℕ} {done : Bool} {ls : List Landing} → (between : Meaning) → first_no (exchange_checks t c m) ≡ None → LandsAs ls m between → Own m ls → done ≡ (cell between c == old) → m' ≡ exchanged c old new between → Happens m m' (event (Exchange t c old new) (Ok (Swapped done)) ls)
+  ticks : {ls : List Landing} → (between : Meaning) → first_no (tick_checks m) ≡ None → LandsAs ls m between → Own m ls → due between ≡ false → m' ≡ ticked between → Happens m m' (event Tick (Ok Done) ls)
 
 -- what a call answers and leaves
-pub record Performs (c : Call) (m m' : Meaning) (a : Answer) : Type 0 where
+pub record Performs (c : Call) (m m' : Meaning) (a : Outcome) : Type 0 where
   pub landings : List Landing
   pub happens : Happens m m' (event c a landings)
 
@@ -60,13 +64,11 @@ Run m (e ∷ h) m'' = (m' : Meaning) × Run m h m' × Happens m' m'' e
 
 -- What the history tells by itself.
 
-abbrev pub accepted : Answer → Bool
-accepted Done = true
-accepted (Value v) = true
-accepted (Swapped b) = true
-accepted (Refused e) = false
+abbrev pub accepted : Outcome → Bool
+accepted (Ok a) = true
+accepted (Err e) = false
 
-abbrev pub ticks_of : Call → Answer → ℕ
+abbrev pub ticks_of : Call → Outcome → ℕ
 ticks_of (Store t c v) a = 0
 ticks_of (Load t c) a = 0
 ticks_of (Land t) a = 0
@@ -78,7 +80,7 @@ abbrev pub clock_in : List Event → ℕ
 clock_in [] = 0
 clock_in (e ∷ h) = clock_in h + ticks_of e.call e.answer
 
-abbrev pub store_of : ℕ → ℕ → Call → Answer → List Write
+abbrev pub store_of : ℕ → ℕ → Call → Outcome → List Write
 store_of t d (Store u c v) a = cond (accepted a && u == t) (record { cell = c; value = v; date = d } ∷ []) []
 store_of t d (Load u c) a = []
 store_of t d (Land u) a = []
@@ -103,13 +105,13 @@ abbrev pub after_landings : List Landing → ℕ → ℕ → ℕ
 after_landings [] c v = v
 after_landings (l ∷ ls) c v = after_landings ls c (cond (l.write.cell == c) l.write.value v)
 
-abbrev pub swapped : Answer → Bool
-swapped Done = false
-swapped (Value v) = false
-swapped (Swapped b) = b
-swapped (Refused e) = false
+abbrev pub swapped : Outcome → Bool
+swapped (Ok Done) = false
+swapped (Ok (Value v)) = false
+swapped (Ok (Swapped b)) = b
+swapped (Err e) = false
 
-abbrev pub after_exchange : Call → Answer → ℕ → ℕ → ℕ
+abbrev pub after_exchange : Call → Outcome → ℕ → ℕ → ℕ
 after_exchange (Store t d w) a c v = v
 after_exchange (Load t d) a c v = v
 after_exchange (Land t) a c v = v
@@ -130,17 +132,17 @@ seen_in h ls t c = value_or (newest (drop (length (landed_in h t ++ writes_of t 
 abbrev pub swaps_in : List Event → List Landing → ℕ → ℕ → Bool
 swaps_in h ls c old = after_landings ls c (value_in h c) == old
 
-abbrev pub TrueAnswer : List Event → List Landing → Call → Answer → Type 0
+abbrev pub TrueAnswer : List Event → List Landing → Call → Outcome → Type 0
 TrueAnswer h ls (Store t c v) a = Unit {0}
-TrueAnswer h ls (Load t c) Done = ⊥
-TrueAnswer h ls (Load t c) (Value v) = v ≡ seen_in h ls t c
-TrueAnswer h ls (Load t c) (Swapped b) = ⊥
-TrueAnswer h ls (Load t c) (Refused e) = Unit {0}
+TrueAnswer h ls (Load t c) (Ok Done) = ⊥
+TrueAnswer h ls (Load t c) (Ok (Value v)) = v ≡ seen_in h ls t c
+TrueAnswer h ls (Load t c) (Ok (Swapped b)) = ⊥
+TrueAnswer h ls (Load t c) (Err e) = Unit {0}
 TrueAnswer h ls (Land t) a = Unit {0}
-TrueAnswer h ls (Exchange t c old new) Done = ⊥
-TrueAnswer h ls (Exchange t c old new) (Value v) = ⊥
-TrueAnswer h ls (Exchange t c old new) (Swapped b) = b ≡ swaps_in h ls c old
-TrueAnswer h ls (Exchange t c old new) (Refused e) = Unit {0}
+TrueAnswer h ls (Exchange t c old new) (Ok Done) = ⊥
+TrueAnswer h ls (Exchange t c old new) (Ok (Value v)) = ⊥
+TrueAnswer h ls (Exchange t c old new) (Ok (Swapped b)) = b ≡ swaps_in h ls c old
+TrueAnswer h ls (Exchange t c old new) (Err e) = Unit {0}
 TrueAnswer h ls Tick a = Unit {0}
 
 -- The laws of a history that leads to m.
@@ -160,7 +162,7 @@ Always m [] m' r = Lawful [] m'
 Always m (e ∷ h) m'' r = Lawful (e ∷ h) m'' × TrueAnswer h e.landings e.call e.answer × Always m h r.0 r.1
 
 -- The calls were carried out in their order from a new memory, each with its answer, and the run keeps the laws.
-pub record Ran (asked : List Call) (told : List Answer) (m m' : Meaning) : Type 0 where
+pub record Ran (asked : List Call) (told : List Outcome) (m m' : Meaning) : Type 0 where
   pub new : New m
   pub events : List Event
   pub calls : map (λ (e : Event). e.call) events ≡ reverse asked
@@ -173,6 +175,6 @@ FaultOf NotNew m = is_new m ≡ false
 FaultOf NoMemory m = is_new m ≡ true
 
 -- what carrying out a list of calls promises; a refusal changes nothing
-abbrev pub Carries : {Z : Type 0} → List Call → Meaning → Meaning → Result (Vec Answer Z) RunFault → Type 0
+abbrev pub Carries : {Z : Type 0} → List Call → Meaning → Meaning → Result (Vec Outcome Z) RunFault → Type 0
 Carries asked m m' (Ok told) = Ran asked (vec_items told) m m'
 Carries asked m m' (Err e) = FaultOf e m × (m' ≡ m)

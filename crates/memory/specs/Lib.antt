@@ -1,5 +1,6 @@
 pub mod Calls
 pub mod Checks
+pub mod Fault
 pub mod History
 pub mod Landings
 pub mod Meaning

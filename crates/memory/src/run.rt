@@ -1,10 +1,15 @@
 // Lists of calls, carried out on any memory.
+ghost use Rattle.std.specs.Prelude.{◌≡◌, Some};
+ghost use Rattle.memory.specs.declared.run.RunFault.TheVariants.{NoMemory};
+ghost use Rattle.memory.specs.Fault.{fault_text};
 ghost use Rattle.memory.specs.History.{Performs, Carries};
 
 use crate::memory::Memory;
 use crate::newness::is_new;
 use crate::refusal::Refusal;
-use std::alloc::Global;
+use std::alloc::{AllocError, Global};
+use std::error::Error;
+use std::fmt;
 
 #[derive(Clone, Copy, PartialEq, Eq, Debug)]
 pub enum Call {
@@ -29,6 +34,7 @@ pub enum Call {
     Tick,
 }
 
+// What an accepted call answers.
 #[derive(Clone, Copy, PartialEq, Eq, Debug)]
 pub enum Answer {
     // a store, a landing or a tick was done
@@ -37,7 +43,6 @@ pub enum Answer {
     Value(u64),
     // whether the exchange wrote
     Swapped(bool),
-    Refused(Refusal),
 }
 
 #[derive(Clone, Copy, PartialEq, Eq, Debug)]
@@ -48,8 +53,29 @@ pub enum RunFault {
     NoMemory,
 }
 
+impl fmt::Display for RunFault {
+    ghost output = { λ fault. Some (fault_text fault) };
+
+    fn fmt<W: fmt::Write>(&self, f: &mut fmt::Formatter<W>) -> fmt::Result {
+        match self {
+            RunFault::NotNew => write!(f, "the memory is not new"),
+            RunFault::NoMemory => write!(f, "no memory for the answers"),
+        }
+    }
+}
+
+impl Error for RunFault {}
+
+impl From<AllocError> for RunFault {
+    ghost from_gives = { λ _ fault. fault ≡ NoMemory };
+
+    fn from(_error: AllocError) -> RunFault {
+        Self::NoMemory
+    }
+}
+
 // Makes one call.
-pub fn perform<M: Memory>(memory: &mut M, call: Call) -> Answer
+pub fn perform<M: Memory>(memory: &mut M, call: Call) -> Result<Answer, Refusal>
     ensures { Performs call (M.meaning memory.old) (M.meaning memory.new) result }
 {
     match call {
@@ -57,44 +83,32 @@ pub fn perform<M: Memory>(memory: &mut M, call: Call) -> Answer
             thread,
             cell,
             value,
-        } => match memory.store(thread, cell, value) {
-            Ok(()) => Answer::Done,
-            Err(refusal) => Answer::Refused(refusal),
-        },
-        Call::Load { thread, cell } => match memory.load(thread, cell) {
-            Ok(value) => Answer::Value(value),
-            Err(refusal) => Answer::Refused(refusal),
-        },
-        Call::Land { thread } => match memory.land(thread) {
-            Ok(()) => Answer::Done,
-            Err(refusal) => Answer::Refused(refusal),
-        },
+        } => memory.store(thread, cell, value).map(|()| Answer::Done),
+        Call::Load { thread, cell } => memory.load(thread, cell).map(Answer::Value),
+        Call::Land { thread } => memory.land(thread).map(|()| Answer::Done),
         Call::Exchange {
             thread,
             cell,
             old,
             new,
-        } => match memory.exchange(thread, cell, old, new) {
-            Ok(done) => Answer::Swapped(done),
-            Err(refusal) => Answer::Refused(refusal),
-        },
-        Call::Tick => match memory.tick() {
-            Ok(()) => Answer::Done,
-            Err(refusal) => Answer::Refused(refusal),
-        },
+        } => memory.exchange(thread, cell, old, new).map(Answer::Swapped),
+        Call::Tick => memory.tick().map(|()| Answer::Done),
     }
 }
 
 // Carries out the calls in their order on a new memory, and tells every answer.
-pub fn run<M: Memory>(heap: Global, memory: &mut M, calls: &[Call]) -> Result<Vec<Answer>, RunFault>
+pub fn run<M: Memory>(
+    heap: Global,
+    memory: &mut M,
+    calls: &[Call],
+) -> Result<Vec<Result<Answer, Refusal>>, RunFault>
     ensures { Carries calls.now (M.meaning memory.old) (M.meaning memory.new) result }
 {
     if !is_new(memory) {
         return Err(RunFault::NotNew);
     }
-    let Ok(mut answers) = Vec::with_capacity(heap, calls.len()) else {
-        return Err(RunFault::NoMemory);
-    };
+    // room for every answer first: a call that was made could not be taken back
+    let mut answers = Vec::with_capacity(heap, calls.len())?;
     for call in calls {
         answers.push_reserved(perform(memory, *call));
     }
