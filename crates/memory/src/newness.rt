@@ -7,12 +7,7 @@ use crate::memory::Memory;
 fn nothing_waits<M: Memory>(memory: &M) -> bool
     ensures { result ≡ nothing_waits (M.meaning memory.now) }
 {
-    for thread in 0..8 {
-        if memory.waiting(thread) > 0 {
-            return false;
-        }
-    }
-    true
+    (0..8).all(|thread| memory.waiting(thread) == 0)
 }
 
 // Loads find every cell at 0. Where nothing waits, they land nothing.
@@ -21,14 +16,10 @@ fn cells_are_zero<M: Memory>(memory: &mut M) -> bool
     ensures answer { result ≡ cells_are_zero (M.meaning memory.old) }
     ensures same { M.meaning memory.new ≡ M.meaning memory.old }
 {
+    // a loop, since a proof knows nothing of what an iterator's closure borrowed and changed
     for cell in 0..64 {
-        match memory.load(0, cell) {
-            Ok(value) => {
-                if value != 0 {
-                    return false;
-                }
-            }
-            Err(_) => return false,
+        if memory.load(0, cell) != Ok(0) {
+            return false;
         }
     }
     true
@@ -39,11 +30,5 @@ pub fn is_new<M: Memory>(memory: &mut M) -> bool
     ensures answer { result ≡ is_new (M.meaning memory.old) }
     ensures same { M.meaning memory.new ≡ M.meaning memory.old }
 {
-    if memory.clock() != 0 {
-        return false;
-    }
-    if !nothing_waits(memory) {
-        return false;
-    }
-    cells_are_zero(memory)
+    memory.clock() == 0 && nothing_waits(memory) && cells_are_zero(memory)
 }

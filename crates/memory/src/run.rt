@@ -109,6 +109,7 @@ pub fn run<M: Memory>(
     }
     // room for every answer first: a call that was made could not be taken back
     let mut answers = Vec::with_capacity(heap, calls.len())?;
+    // a loop, since a proof knows nothing of what an iterator's closure borrowed and changed
     for call in calls {
         answers.push_reserved(perform(memory, *call));
     }
