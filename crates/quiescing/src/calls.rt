@@ -16,7 +16,7 @@ impl<M: Memory> Quiescing<M> {
     pub fn new(mut below: M, limit: u32) -> Result<Quiescing<M>, Unmade<M>>
         ensures { LayerMade M.Memory.meaning below limit result }
     {
-        if limit < 1 || limit > 1000 || !is_new(&mut below) {
+        if !(1..=1000).contains(&limit) || !is_new(&mut below) {
             return Err(Unmade {
                 refusal: Refusal::NotMade,
                 below,

@@ -10,6 +10,7 @@ fn drain<M: Memory>(memory: &mut M)
 {
     for thread in 0..8 {
         while memory.waiting(thread) > 0 {
+            // accepted, since a write waits
             let _ = memory.land(thread);
         }
     }

@@ -1,10 +1,6 @@
+use Rattle.std.proofs.Common.{rules}
 use Rattle.quiescing.proofs.Layering.{lands_on}
 use Rattle.quiescing.proofs.calls.QuiescingMemory.land.Goals as goal
 
-pub returns : goal.returns
-returns g c =
-    let m = g.M.Memory.meaning in
-    record {
-      call = lands_on c.args.self.now.limit c.args.thread (m c.args.self.now.below) (m c.land.new.self) c.land.result c.land.ensures;
-      below = c.land.ensures;
-    }
+pub returns-clause-call : goal.returns-clause-call
+returns-clause-call g c = search (rules, lands_on)
