@@ -1,17 +1,18 @@
 -- A sound memory that is found new is new. Assumes nothing.
 use Rattle.std.proofs.Common.{◌≡◌, ℕ, Bool, true, ◌&&◌, eqb, List, [], ◌∷◌, length, replicate, sym, refl}
+use Rattle.std.specs.List.{list_all}
 use Rattle.std.proofs.lemmas.List.{nil_from_length}
 use Rattle.std.proofs.lemmas.Bool.{eqb-true, and_parts}
 use Rattle.memory.specs.declared.write.Write.{Write}
-use Rattle.memory.specs.Meaning.{Meaning, all_of, nothing_waits, cells_are_zero, is_new}
+use Rattle.memory.specs.Meaning.{Meaning, nothing_waits, cells_are_zero, is_new}
 use Rattle.memory.specs.Calls.{Sound}
 use Rattle.memory.specs.History.{New}
 
 -- a list whose every element passes a test for d is d over and over
-all_are : {X : Type 0} (p : X → Bool) (d : X) → ((x : X) → p x ≡ true → x ≡ d) → (xs : List X) → all_of p xs ≡ true → xs ≡ replicate (length xs) d
+all_are : {X : Type 0} (p : X → Bool) (d : X) → ((x : X) → p x ≡ true → x ≡ d) → (xs : List X) → list_all p xs ≡ true → xs ≡ replicate (length xs) d
 all_are p d one [] e = refl
 all_are p d one (x ∷ xs) e =
-    let r = and_parts (p x) (all_of p xs) e in
+    let r = and_parts (p x) (list_all p xs) e in
     let f : x ≡ d = one x r.0 in
     let g : xs ≡ replicate (length xs) d = all_are p d one xs r.1 in
     cc

@@ -1,13 +1,15 @@
 -- Writes that have waited as long as the bound allows: of each thread the oldest decides. Assumes nothing.
-use Rattle.std.proofs.Common.{◌≡◌, ℕ, zero, suc, ◌+◌, ◌<◌, ◌≤◌, Bool, true, false, leb, ◌≢◌, ◌⊎◌, List, [], ◌∷◌, length, get_or, Some, None, Option, sym, refl, ap, ◌∙◌, inl, inr, suc-le-suc, zero-le, le_of_suc-le-suc, arith}
-use Rattle.std.specs.List.{AllByRecursion}
+use Rattle.std.proofs.Common.{◌≡◌, ℕ, ◌+◌, ◌<◌, ◌≤◌, Bool, true, false, leb, ◌≢◌, ◌⊎◌, List, [], ◌∷◌, length, get_or, Some, None, Option, sym, refl, ap, ◌∙◌, inl, inr, arith}
+use Rattle.std.specs.List.{AllByRecursion, list_any}
 use Rattle.std.specs.List.Sorted.{IsNonDecreasingBy}
 use Rattle.std.proofs.ByRecursion.{All-weaker}
 use Rattle.std.proofs.lemmas.List.{get_or_past}
-use Rattle.std.proofs.lemmas.Bool.{cases_eq, cases_lt, leb-false, lt-leb, le-leb, or_parts, or_from, or_left, or_right}
+use Rattle.std.proofs.lemmas.List.Elements.{All-from_get_or}
+use Rattle.std.proofs.lemmas.List.Folds.{list_any_none, list_any_at}
+use Rattle.std.proofs.lemmas.Bool.{cases_Bool, true≢false, cases_eq, cases_lt, leb-false, lt-leb, le-leb, or_parts, or_from, or_left}
 use Rattle.dated.proofs.Dates.{rises_head}
 use Rattle.memory.specs.declared.write.Write.{Write}
-use Rattle.memory.specs.Meaning.{Meaning, queue, date_of_first, oldest_date, any_of, is_due, due, landed}
+use Rattle.memory.specs.Meaning.{Meaning, queue, date_of_first, oldest_date, is_due, due, landed}
 use Rattle.memory.specs.Landings.{Lands}
 use Rattle.memory.proofs.Views.{Popped, landed_cases, lands_keep}
 use Rattle.memory.proofs.Soundness.{date_of}
@@ -19,39 +21,31 @@ InTime clock bound w = clock < w.date + bound
 pub record NoneDue (m : Meaning) : Type 0 where
   pub rows : (t : ℕ) → AllByRecursion (InTime m.clock m.bound) (queue m t)
 
--- Some element passes a test, or none does.
-any_none : {X : Type 0} (p : X → Bool) (d : X) (xs : List X) → ((i : ℕ) → i < length xs → p (get_or xs i d) ≡ false) → any_of p xs ≡ false
-any_none p d [] h = refl
-any_none p d (x ∷ xs) h = or_from (p x) (any_of p xs) (h 0 (suc-le-suc zero-le)) (any_none p d xs (λ i lt. h (suc i) (suc-le-suc lt)))
-
-any_none_at : {X : Type 0} (p : X → Bool) (d : X) (xs : List X) → any_of p xs ≡ false → (i : ℕ) → i < length xs → p (get_or xs i d) ≡ false
-any_none_at p d [] e i lt = absurd (omega arith)
-any_none_at p d (x ∷ xs) e zero lt = (or_parts (p x) (any_of p xs) e).0
-any_none_at p d (x ∷ xs) e (suc i) lt = any_none_at p d xs (or_parts (p x) (any_of p xs) e).1 i (le_of_suc-le-suc lt)
-
-any_some : {X : Type 0} (p : X → Bool) (d : X) (xs : List X) (i : ℕ) → i < length xs → p (get_or xs i d) ≡ true → any_of p xs ≡ true
-any_some p d [] i lt e = absurd (omega arith)
-any_some p d (x ∷ xs) zero lt e = or_left (p x) (any_of p xs) e
-any_some p d (x ∷ xs) (suc i) lt e = or_right (p x) (any_of p xs) (any_some p d xs i (le_of_suc-le-suc lt) e)
+-- where no element passes a test, one does not
+none_at : {X : Type 0} (p : X → Bool) (d : X) (xs : List X) → list_any p xs ≡ false → (i : ℕ) → i < length xs → p (get_or xs i d) ≡ false
+none_at p d xs e i lt = elim (cases_Bool (p (get_or xs i d))) [ inl y ↦ absurd (true≢false (sym (list_any_at p xs i d lt y) ∙ e)) | inr n ↦ n ]
 
 -- One thread's writes.
-row_none : (m : Meaning) (ws : List Write) → AllByRecursion (InTime m.clock m.bound) ws → any_of (is_due m) ws ≡ false
+row_none : (m : Meaning) (ws : List Write) → AllByRecursion (InTime m.clock m.bound) ws → list_any (is_due m) ws ≡ false
 row_none m [] a = refl
-row_none m (w ∷ ws) a = or_from (is_due m w) (any_of (is_due m) ws) (lt-leb (w.date + m.bound) m.clock a.0) (row_none m ws a.1)
+row_none m (w ∷ ws) a = or_from (is_due m w) (list_any (is_due m) ws) (lt-leb (w.date + m.bound) m.clock a.0) (row_none m ws a.1)
 
-row_all : (m : Meaning) (ws : List Write) → any_of (is_due m) ws ≡ false → AllByRecursion (InTime m.clock m.bound) ws
+row_all : (m : Meaning) (ws : List Write) → list_any (is_due m) ws ≡ false → AllByRecursion (InTime m.clock m.bound) ws
 row_all m [] e = tt
-row_all m (w ∷ ws) e = let p = or_parts (is_due m w) (any_of (is_due m) ws) e in (leb-false (w.date + m.bound) m.clock p.0, row_all m ws p.1)
+row_all m (w ∷ ws) e = let p = or_parts (is_due m w) (list_any (is_due m) ws) e in (leb-false (w.date + m.bound) m.clock p.0, row_all m ws p.1)
 
 -- All threads.
+rows_none : (m : Meaning) → ((t : ℕ) → t < length m.waiting → list_any (is_due m) (queue m t) ≡ false) → due m ≡ false
+rows_none m h = list_any_none (list_any (is_due m)) m.waiting (All-from_get_or (λ (ws : List Write). list_any (is_due m) ws ≡ false) m.waiting [] h)
+
 pub none_due_lem : (m : Meaning) → NoneDue m → due m ≡ false
-none_due_lem m h = any_none (any_of (is_due m)) [] m.waiting (λ t lt. row_none m (queue m t) (h.rows t))
+none_due_lem m h = rows_none m (λ t lt. row_none m (queue m t) (h.rows t))
 
 pub due_none : (m : Meaning) → due m ≡ false → NoneDue m
 due_none m e = record { rows = λ t. at t (cases_lt t (length m.waiting)) }
   where
     at : (t : ℕ) → (t < length m.waiting) ⊎ (length m.waiting ≤ t) → AllByRecursion (InTime m.clock m.bound) (queue m t)
-    at t (inl lt) = row_all m (queue m t) (any_none_at (any_of (is_due m)) [] m.waiting e t lt)
+    at t (inl lt) = row_all m (queue m t) (none_at (list_any (is_due m)) [] m.waiting e t lt)
     at t (inr le) = rw (get_or_past m.waiting t [] le) tt
 
 -- Dates never fall along a thread's writes, so its oldest tells whether one of them is due.
@@ -63,22 +57,22 @@ date_due m (Some d) = leb (d + m.bound) m.clock
 pub told_due : (m : Meaning) (told told' oldest : Option ℕ) (r : Bool) → told ≡ oldest → told ≡ told' → date_due m told' ≡ r → date_due m oldest ≡ r
 told_due m told told' oldest r e f d = ap (date_due m) (sym e ∙ f) ∙ d
 
-oldest_tells : (m : Meaning) (ws : List Write) → IsNonDecreasingBy date_of ws → any_of (is_due m) ws ≡ date_due m (date_of_first ws)
+oldest_tells : (m : Meaning) (ws : List Write) → IsNonDecreasingBy date_of ws → list_any (is_due m) ws ≡ date_due m (date_of_first ws)
 oldest_tells m [] up = refl
 oldest_tells m (w ∷ ws) up = at (cases_lt m.clock (w.date + m.bound))
   where
-    at : (m.clock < w.date + m.bound) ⊎ (w.date + m.bound ≤ m.clock) → any_of (is_due m) (w ∷ ws) ≡ is_due m w
+    at : (m.clock < w.date + m.bound) ⊎ (w.date + m.bound ≤ m.clock) → list_any (is_due m) (w ∷ ws) ≡ is_due m w
     at (inl early) =
         let later = All-weaker (λ (x : Write). w.date ≤ x.date) (InTime m.clock m.bound) (λ x h. omega arith) ws (rises_head date_of w ws up) in
         row_none m (w ∷ ws) (early, later) ∙ sym (lt-leb (w.date + m.bound) m.clock early)
-    at (inr late) = let yes = le-leb (w.date + m.bound) m.clock late in or_left (is_due m w) (any_of (is_due m) ws) yes ∙ sym yes
+    at (inr late) = let yes = le-leb (w.date + m.bound) m.clock late in or_left (is_due m w) (list_any (is_due m) ws) yes ∙ sym yes
 
 module _ (m : Meaning) (up : (t : ℕ) → IsNonDecreasingBy date_of (queue m t)) where
   pub oldest_none_due : ((t : ℕ) → t < length m.waiting → date_due m (oldest_date m t) ≡ false) → due m ≡ false
-  oldest_none_due none = any_none (any_of (is_due m)) [] m.waiting (λ t lt. oldest_tells m (queue m t) (up t) ∙ none t lt)
+  oldest_none_due none = rows_none m (λ t lt. oldest_tells m (queue m t) (up t) ∙ none t lt)
 
   pub oldest_some_due : (t : ℕ) → t < length m.waiting → date_due m (oldest_date m t) ≡ true → due m ≡ true
-  oldest_some_due t lt e = any_some (any_of (is_due m)) [] m.waiting t lt (oldest_tells m (queue m t) (up t) ∙ e)
+  oldest_some_due t lt e = list_any_at (list_any (is_due m)) m.waiting t [] lt (oldest_tells m (queue m t) (up t) ∙ e)
 
 -- landings keep what waits in time
 rows_landed : (clock bound t : ℕ) (m : Meaning) → ((u : ℕ) → AllByRecursion (InTime clock bound) (queue m u)) → (u : ℕ) → AllByRecursion (InTime clock bound) (queue (landed t m) u)

@@ -1,6 +1,7 @@
 -- What a memory means, and what each action does to it. Code and proofs above this file read a meaning only through the
 -- projections `clock`, `bound`, `self_landing`, `queue` and `cell`, so that it can gain fields. Assumes nothing.
-use Rattle.std.specs.Prelude.{ℕ, ◌+◌, Bool, true, false, cond, ◌&&◌, ◌||◌, List, [], ◌∷◌, ◌++◌, length, replicate, Some, None, Option, ◌==◌, nat_eq, nat_le, slice_index, slice_index_or, slice_set}
+use Rattle.std.specs.Prelude.{ℕ, ◌+◌, Bool, cond, ◌&&◌, List, [], ◌∷◌, ◌++◌, length, replicate, Some, None, Option, ◌==◌, nat_eq, nat_le, slice_index, slice_index_or, slice_set}
+use Rattle.std.specs.List.{list_any, list_all}
 use Rattle.memory.specs.declared.write.Write.{Write}
 
 pub record Meaning : Type 0 where
@@ -113,9 +114,9 @@ exchanged c old new m = cond (cell m c == old) (with_cell m c new) m
 unfoldable pub ticked : Meaning → Meaning
 ticked m = with_clock m (m.clock + 1)
 
+-- std's word, under the name by which crates above say it
 abbrev pub any_of : {X : Type 0} → (X → Bool) → List X → Bool
-any_of p [] = false
-any_of p (x ∷ xs) = p x || any_of p xs
+any_of p xs = list_any p xs
 
 -- a write has waited as long as the bound allows
 abbrev pub is_due : Meaning → Write → Bool
@@ -123,17 +124,13 @@ is_due m w = nat_le (w.date + m.bound) m.clock
 
 -- some waiting write has
 abbrev pub due : Meaning → Bool
-due m = any_of (any_of (is_due m)) m.waiting
-
-abbrev pub all_of : {X : Type 0} → (X → Bool) → List X → Bool
-all_of p [] = true
-all_of p (x ∷ xs) = p x && all_of p xs
+due m = list_any (list_any (is_due m)) m.waiting
 
 abbrev pub nothing_waits : Meaning → Bool
-nothing_waits m = all_of (λ ws. nat_eq (length ws) 0) m.waiting
+nothing_waits m = list_all (λ ws. nat_eq (length ws) 0) m.waiting
 
 abbrev pub cells_are_zero : Meaning → Bool
-cells_are_zero m = all_of (λ v. nat_eq v 0) m.cells
+cells_are_zero m = list_all (λ v. nat_eq v 0) m.cells
 
 -- the clock is 0, nothing waits and every cell is 0
 abbrev pub is_new : Meaning → Bool
