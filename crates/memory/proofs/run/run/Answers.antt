@@ -1,13 +1,9 @@
-use Rattle.std.proofs.Common.{sym, arith, rules}
+use Rattle.std.proofs.Common.{sym, rules}
 use Rattle.memory.proofs.Carrying.{upto_more, upto_all}
 use Rattle.memory.proofs.run.run.Goals as goal
 
 pub loop-call-preserved : goal.loop-call-preserved
-loop-call-preserved g c = (
-  omega arith,
-  omega arith,
-  upto_more _ _ _ _ _ _ _ _ _ c.loop-call-test.true (search rules) c.push_reserved.ensures.items c.loop-call.invariant.2 c.perform.ensures,
-)
+loop-call-preserved g c = search (rules, upto_more)
 
 pub returns : goal.returns
 returns g c =
