@@ -20,6 +20,10 @@ pub passed_tail : {E : Type 0} (a : Bool) (e : E) (cs : List (Check E)) → firs
 passed_tail true e cs p = p
 passed_tail false e cs p = let z : ◌≡◌ {A = ℕ} 0 1 = cc in absurd (omega arith)
 
+-- both of two checks have passed
+both_passed : {E : Type 0} {a b : Bool} (e f : E) → first_no (check a e ∷ check b f ∷ []) ≡ None → (a ≡ true) × (b ≡ true)
+both_passed {a = a} {b} e f p = (passed_head a e (check b f ∷ []) p, passed_head b f [] (passed_tail a e (check b f ∷ []) p))
+
 pub in_range_lem : {t c : ℕ} → t < 8 → c < 64 → in_range t c ≡ true
 in_range_lem {t} {c} p q = and_from (ltb t 8) (ltb c 64) (lt-ltb t 8 p) (lt-ltb c 64 q)
 
@@ -31,23 +35,14 @@ pub record StorePassed (t c : ℕ) (m : Meaning) : Type 0 where
 
 pub store_passed : (t c : ℕ) (m : Meaning) → first_no (store_checks t c m) ≡ None → StorePassed t c m
 store_passed t c m p =
-    let r = and_parts (ltb t 8) (ltb c 64) (passed_head (in_range t c) OutOfRange (check (ltb (waiting_count m t) 8) BufferFull ∷ []) p) in
-    record {
-      thread = ltb-true t 8 r.0;
-      place = ltb-true c 64 r.1;
-      room = ltb-true (waiting_count m t) 8 (passed_head (ltb (waiting_count m t) 8) BufferFull [] (passed_tail (in_range t c) OutOfRange (check (ltb (waiting_count m t) 8) BufferFull ∷ []) p));
-    }
-
-pub load_passed : (t c : ℕ) → first_no (load_checks t c) ≡ None → (t < 8) × (c < 64)
-load_passed t c p =
-    let r = and_parts (ltb t 8) (ltb c 64) (passed_head (in_range t c) OutOfRange [] p) in
-    (ltb-true t 8 r.0, ltb-true c 64 r.1)
+    let q = both_passed OutOfRange BufferFull p in
+    let r = and_parts (ltb t 8) (ltb c 64) q.0 in
+    record { thread = ltb-true t 8 r.0; place = ltb-true c 64 r.1; room = ltb-true (waiting_count m t) 8 q.1 }
 
 pub land_passed : (t : ℕ) (m : Meaning) → first_no (land_checks t m) ≡ None → (t < 8) × (0 < waiting_count m t)
-land_passed t m p = (
-  ltb-true t 8 (passed_head (ltb t 8) OutOfRange (check (ltb 0 (waiting_count m t)) NothingWaiting ∷ []) p),
-  ltb-true 0 (waiting_count m t) (passed_head (ltb 0 (waiting_count m t)) NothingWaiting [] (passed_tail (ltb t 8) OutOfRange (check (ltb 0 (waiting_count m t)) NothingWaiting ∷ []) p)),
-)
+land_passed t m p =
+    let q = both_passed OutOfRange NothingWaiting p in
+    (ltb-true t 8 q.0, ltb-true 0 (waiting_count m t) q.1)
 
 pub record ExchangePassed (t c : ℕ) (m : Meaning) : Type 0 where
   pub thread : t < 8
@@ -56,18 +51,14 @@ pub record ExchangePassed (t c : ℕ) (m : Meaning) : Type 0 where
 
 pub exchange_passed : (t c : ℕ) (m : Meaning) → first_no (exchange_checks t c m) ≡ None → ExchangePassed t c m
 exchange_passed t c m p =
-    let r = and_parts (ltb t 8) (ltb c 64) (passed_head (in_range t c) OutOfRange (check (eqb (waiting_count m t) 0) WritesWaiting ∷ []) p) in
-    record {
-      thread = ltb-true t 8 r.0;
-      place = ltb-true c 64 r.1;
-      none = eqb-true (waiting_count m t) 0 (passed_head (eqb (waiting_count m t) 0) WritesWaiting [] (passed_tail (in_range t c) OutOfRange (check (eqb (waiting_count m t) 0) WritesWaiting ∷ []) p));
-    }
+    let q = both_passed OutOfRange WritesWaiting p in
+    let r = and_parts (ltb t 8) (ltb c 64) q.0 in
+    record { thread = ltb-true t 8 r.0; place = ltb-true c 64 r.1; none = eqb-true (waiting_count m t) 0 q.1 }
 
 pub tick_passed : (m : Meaning) → first_no (tick_checks m) ≡ None → (m.clock < 1000000) × ((m.self_landing || not (due m)) ≡ true)
-tick_passed m p = (
-  ltb-true m.clock 1000000 (passed_head (ltb m.clock 1000000) ClockAtEnd (check (m.self_landing || not (due m)) WriteDue ∷ []) p),
-  passed_head (m.self_landing || not (due m)) WriteDue [] (passed_tail (ltb m.clock 1000000) ClockAtEnd (check (m.self_landing || not (due m)) WriteDue ∷ []) p),
-)
+tick_passed m p =
+    let q = both_passed ClockAtEnd WriteDue p in
+    (ltb-true m.clock 1000000 q.0, q.1)
 
 -- where each call's checks pass or fail
 pub store_passes : (t c : ℕ) (m : Meaning) → t < 8 → c < 64 → waiting_count m t < 8 → first_no (store_checks t c m) ≡ None

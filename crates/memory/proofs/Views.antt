@@ -167,14 +167,6 @@ lands_trans {l} {m} {n} a b =
       none = λ e. rw (a.none e) (b.none ((lands_fixed a).self_landing ∙ e));
     }
 
--- a memory that does not land by itself stays as it is
-pub lands_held : {m m' : Meaning} → m.self_landing ≡ false → Lands m m' → m' ≡ m
-lands_held {m} {m'} e l = go l.landings (l.none e) l.lead
-  where
-    go : (ls : List Landing) → ls ≡ [] → LandsAs ls m m' → m' ≡ m
-    go [] f p = p
-    go (x ∷ ls) f p = let z : ◌≡◌ {A = ℕ} 0 1 = cc in absurd (omega arith)
-
 -- where nothing waits, nothing lands
 pub lands_empty : {m m' : Meaning} → ((t : ℕ) → queue m t ≡ []) → Lands m m' → m' ≡ m
 lands_empty {m} none l = lands_keep (λ x. x ≡ m) (λ t x e. subst (λ (y : Meaning). landed t y ≡ m) (sym e) (landed_none t m (none t))) l refl
