@@ -5,18 +5,21 @@ use memory::memory::Memory;
 use std::test::Fail;
 
 #[test]
-fn refuses_what_is_out_of_range() -> Result<(), Fail> {
-    refuses_out_of_range(&mut Held::new(1)?)
+fn refuses_what_is_out_of_range(rt: HostRuntime) -> Result<(), Fail> {
+    refuses_out_of_range(&rt, &mut Held::new(1)?);
+    Ok(())
 }
 
 #[test]
-fn refuses_a_ninth_write() -> Result<(), Fail> {
-    fills_a_buffer(&mut Held::new(1)?)
+fn refuses_a_ninth_write(rt: HostRuntime) -> Result<(), Fail> {
+    fills_a_buffer(&rt, &mut Held::new(1)?);
+    Ok(())
 }
 
 #[test]
-fn refuses_to_tick_at_the_end() -> Result<(), Fail> {
-    ends_at_a_million(&mut Held::new(1000)?)
+fn refuses_to_tick_at_the_end(rt: HostRuntime) -> Result<(), Fail> {
+    ends_at_a_million(&rt, &mut Held::new(1000)?);
+    Ok(())
 }
 
 #[test]

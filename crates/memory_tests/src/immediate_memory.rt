@@ -5,13 +5,15 @@ use memory::memory::Memory;
 use std::test::Fail;
 
 #[test]
-fn refuses_what_is_out_of_range() -> Result<(), Fail> {
-    refuses_out_of_range(&mut Immediate::new(1)?)
+fn refuses_what_is_out_of_range(rt: HostRuntime) -> Result<(), Fail> {
+    refuses_out_of_range(&rt, &mut Immediate::new(1)?);
+    Ok(())
 }
 
 #[test]
-fn refuses_to_tick_at_the_end() -> Result<(), Fail> {
-    ends_at_a_million(&mut Immediate::new(1)?)
+fn refuses_to_tick_at_the_end(rt: HostRuntime) -> Result<(), Fail> {
+    ends_at_a_million(&rt, &mut Immediate::new(1)?);
+    Ok(())
 }
 
 #[test]

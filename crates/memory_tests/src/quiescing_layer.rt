@@ -9,20 +9,19 @@ use std::test::Fail;
 
 // A layer, or the refusal alone.
 fn layer<M: Memory + Drop>(below: M, limit: u32) -> Result<Quiescing<M>, Refusal> {
-    match Quiescing::new(below, limit) {
-        Ok(layer) => Ok(layer),
-        Err(unmade) => Err(unmade.refusal),
-    }
+    Quiescing::new(below, limit).map_err(|unmade| unmade.refusal)
 }
 
 #[test]
-fn refuses_what_is_out_of_range() -> Result<(), Fail> {
-    refuses_out_of_range(&mut layer(Held::new(1)?, 1)?)
+fn refuses_what_is_out_of_range(rt: HostRuntime) -> Result<(), Fail> {
+    refuses_out_of_range(&rt, &mut layer(Held::new(1)?, 1)?);
+    Ok(())
 }
 
 #[test]
-fn refuses_a_ninth_write() -> Result<(), Fail> {
-    fills_a_buffer(&mut layer(Held::new(1)?, 1)?)
+fn refuses_a_ninth_write(rt: HostRuntime) -> Result<(), Fail> {
+    fills_a_buffer(&rt, &mut layer(Held::new(1)?, 1)?);
+    Ok(())
 }
 
 #[test]
@@ -92,6 +91,7 @@ fn stands_over_another_layer(rt: HostRuntime) -> Result<(), Fail> {
 }
 
 #[test]
-fn ends_over_the_immediate_memory() -> Result<(), Fail> {
-    ends_at_a_million(&mut layer(layer(Immediate::new(1)?, 1)?, 1000)?)
+fn ends_over_the_immediate_memory(rt: HostRuntime) -> Result<(), Fail> {
+    ends_at_a_million(&rt, &mut layer(layer(Immediate::new(1)?, 1)?, 1000)?);
+    Ok(())
 }
