@@ -1,9 +1,9 @@
 -- When each list of checks passes, and which check fails first. Assumes nothing.
-use Rattle.std.proofs.Common.{◌≡◌, ℕ, ◌<◌, ◌≤◌, Bool, true, false, not, ◌||◌, eqb, ltb, List, [], ◌∷◌, Some, None, refl, arith}
+use Rattle.std.proofs.Common.{◌≡◌, ℕ, ◌<◌, ◌≤◌, Bool, true, false, not, ◌||◌, ltb, List, [], ◌∷◌, Some, None, refl, arith}
 use Rattle.std.proofs.lemmas.Bool.{lt-ltb, le-ltb, eq-eqb, ne_eqb, ltb-true, eqb-true, and_parts, and_from}
 use Rattle.memory.specs.declared.refusal.Refusal.TheVariants.{OutOfRange, BufferFull, NothingWaiting, WritesWaiting, WriteDue, ClockAtEnd}
 use Rattle.memory.specs.Meaning.{Meaning, waiting_count, due}
-use Rattle.memory.specs.Checks.{Check, check, first_no, in_range, store_checks, load_checks, land_checks, exchange_checks, tick_checks}
+use Rattle.memory.specs.Checks.{Check, check, first_no, in_range, store_checks, land_checks, exchange_checks, tick_checks}
 
 -- a list of two checks, of which both pass, or only the second fails
 pub both_pass : {E : Type 0} {a b : Bool} (e f : E) → a ≡ true → b ≡ true → first_no (check a e ∷ check b f ∷ []) ≡ None

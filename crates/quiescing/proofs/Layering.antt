@@ -5,7 +5,8 @@ use Rattle.memory.specs.declared.write.Write.{Write}
 use Rattle.memory.specs.declared.refusal.Refusal.{Refusal}
 use Rattle.memory.specs.Meaning.{Meaning, queue, cell, with_cell, stored, loaded, landed, landed_from, exchanged, ticked}
 use Rattle.memory.specs.Landings.{Landing, LandsAs, Lands}
-use Rattle.memory.specs.Calls.{Sound, Stores, Loads, LandsOne, Exchanges}
+use Rattle.memory.specs.Checks.{Check, store_checks, load_checks, land_checks, exchange_checks}
+use Rattle.memory.specs.Calls.{Sound, Answers, Stores, Loads, LandsOne, Exchanges}
 use Rattle.quiescing.specs.Quiescing.{quieted}
 use Rattle.memory.proofs.Views.{landed_pops, popped_left}
 
@@ -53,31 +54,32 @@ pub quieted_ticked : (k : ℕ) (m : Meaning) → ticked (quieted k m) ≡ quiete
 unfolding ticked
 quieted_ticked k m = refl
 
+-- a call that the memory below answers is answered the same by the layer, where what an accepted one does carries over
+answers_on : {R : Type 0} (k : ℕ) (checks : List (Check Refusal)) (m m' : Meaning) (r : Result R Refusal) (P Q : R → Type 0) → ((x : R) → P x → Q x) → Answers checks m m' r P → Answers checks (quieted k m) (quieted k m') r Q
+answers_on k checks m m' (Ok x) P Q on s = record { passes = s.passes; does = on x s.does }
+answers_on k checks m m' (Err e) P Q on s = record { fails = s.fails; same = ap (quieted k) s.same }
+
 pub stores_on : (k t c v : ℕ) (m m' : Meaning) (r : Result (Unit {0}) Refusal) → Stores Lands t c v m m' r → Stores Lands t c v (quieted k m) (quieted k m') r
-stores_on k t c v m m' (Ok u) s = record { passes = s.passes; does = rw (quieted_stored k t c v m) (quieted_lands k s.does) }
-stores_on k t c v m m' (Err e) s = record { fails = s.fails; same = ap (quieted k) s.same }
+stores_on k t c v m m' r s = answers_on k (store_checks t c m) m m' r _ _ (λ _ l. rw (quieted_stored k t c v m) (quieted_lands k l)) s
 
 pub loads_on : (k t c : ℕ) (m m' : Meaning) (r : Result ℕ Refusal) → Loads Lands t c m m' r → Loads Lands t c (quieted k m) (quieted k m') r
-loads_on k t c m m' (Ok v) s = record { passes = s.passes; does = record { lands = quieted_lands k s.does.lands; value = s.does.value ∙ sym (quieted_loaded k t c m') } }
-loads_on k t c m m' (Err e) s = record { fails = s.fails; same = ap (quieted k) s.same }
+loads_on k t c m m' r s =
+    answers_on k (load_checks t c) m m' r _ _ (λ _ l. record { lands = quieted_lands k l.lands; value = l.value ∙ sym (quieted_loaded k t c m') }) s
 
 pub lands_on : (k t : ℕ) (m m' : Meaning) (r : Result (Unit {0}) Refusal) → LandsOne Lands t m m' r → LandsOne Lands t (quieted k m) (quieted k m') r
-lands_on k t m m' (Ok u) s = record { passes = s.passes; does = rw (quieted_landed k t m) (quieted_lands k s.does) }
-lands_on k t m m' (Err e) s = record { fails = s.fails; same = ap (quieted k) s.same }
+lands_on k t m m' r s = answers_on k (land_checks t m) m m' r _ _ (λ _ l. rw (quieted_landed k t m) (quieted_lands k l)) s
 
 pub exchanges_on : (k t c old new : ℕ) (m m' : Meaning) (r : Result Bool Refusal) → Exchanges Lands t c old new m m' r → Exchanges Lands t c old new (quieted k m) (quieted k m') r
-exchanges_on k t c old new m m' (Ok done) s =
+exchanges_on k t c old new m m' r s =
+    answers_on k (exchange_checks t c m) m m' r _ _
+    (λ _ x.
     record {
-      passes = s.passes;
-      does =
-          record {
-            between = quieted k s.does.between;
-            lands = quieted_lands k s.does.lands;
-            answer = s.does.answer;
-            is = ap (quieted k) s.does.is ∙ sym (quieted_exchanged k c old new s.does.between);
-          };
-    }
-exchanges_on k t c old new m m' (Err e) s = record { fails = s.fails; same = ap (quieted k) s.same }
+      between = quieted k x.between;
+      lands = quieted_lands k x.lands;
+      answer = x.answer;
+      is = ap (quieted k) x.is ∙ sym (quieted_exchanged k c old new x.between);
+    })
+    s
 
 pub quieted_sound : (k : ℕ) (m : Meaning) → 1 ≤ k → Sound m → Sound (quieted k m)
 quieted_sound k m low s =
