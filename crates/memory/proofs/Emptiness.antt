@@ -1,11 +1,12 @@
 -- Tests over all threads and all cells. Assumes nothing.
-use Rattle.std.proofs.Common.{◌≡◌, ℕ, ◌<◌, ◌≤◌, Bool, true, false, eqb, ◌⊎◌, List, [], map, length, None, Ok, Err, Result, not, sym, refl, ap, ◌∙◌, inl, inr, arith}
+use Rattle.std.proofs.Common.{◌≡◌, ℕ, ◌<◌, ◌≤◌, Bool, true, false, eqb, ◌⊎◌, List, [], map, length, None, Ok, Err, Result, not, sym, refl, ap, ◌∙◌, inl, inr}
 use Rattle.std.specs.Result.{result_eq}
 use Rattle.std.specs.List.{list_all, range_with_len}
 use Rattle.std.proofs.lemmas.List.{nil_from_length, get_or_past}
 use Rattle.std.proofs.lemmas.List.FromFn.{fill_by_all}
 use Rattle.std.proofs.lemmas.List.Folds.{list_all-map}
 use Rattle.std.proofs.lemmas.List.Sums.{AllPass-from_list_all}
+use Rattle.std.proofs.lemmas.Option.{none-some}
 use Rattle.std.proofs.lemmas.Bool.{cases_lt, lt-ltb, eqb-true}
 use Rattle.memory.specs.declared.write.Write.{Write}
 use Rattle.memory.specs.declared.refusal.Refusal.{Refusal}
@@ -38,9 +39,7 @@ idle_load c m m' (Ok v) lt e l =
     (same, ap Ok told)
 idle_load c m m' (Err f) lt e l =
     let p : first_no (load_checks 0 c) ≡ None = rw (lt-ltb c 64 lt) refl in
-    let q = l.fails in
-    let z : ◌≡◌ {A = ℕ} 0 1 = cc in
-    absurd (omega arith)
+    absurd (none-some f (sym p ∙ l.fails))
 
 -- so whether its answer differs from 0 tells whether the cell does
 pub cell_told : (same : Refusal → Refusal → Bool) (c : ℕ) (begun m m' : Meaning) (r : Result ℕ Refusal) (b : Bool) → c < 64 → m ≡ begun → nothing_waits begun ≡ true → Loads Lands 0 c m m' r

@@ -38,7 +38,7 @@ pub record Popped (t : ℕ) (m m' : Meaning) : Type 0 where
   pub fixed : Fixed m m'
 
 in_range_lem : {A : Type 0} (xss : List (List A)) (t : ℕ) (x : A) (xs : List A) → get_or xss t [] ≡ x ∷ xs → t < length xss
-in_range_lem [] t x xs e = let z : ◌≡◌ {A = ℕ} 0 1 = cc in omega arith
+in_range_lem [] t x xs e = absurd cc
 in_range_lem (ys ∷ yss) zero x xs e = omega arith
 in_range_lem (ys ∷ yss) (suc t) x xs e = let h = in_range_lem yss t x xs e in omega arith
 

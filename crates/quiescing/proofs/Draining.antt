@@ -5,6 +5,7 @@ use Rattle.std.specs.List.Sorted.{IsNonDecreasing}
 use Rattle.std.proofs.ByRecursion.{All-push, All-weaker}
 use Rattle.std.proofs.lemmas.List.{nil_from_length, get_or_past}
 use Rattle.std.proofs.lemmas.List.Sorted.{IsNonDecreasingBy-short}
+use Rattle.std.proofs.lemmas.Option.{none-some}
 use Rattle.std.proofs.lemmas.Bool.{cases_lt, cases_eq, cases_Bool, or_right, not_from_false}
 use Rattle.dated.proofs.Dates.{rises_append}
 use Rattle.memory.specs.declared.write.Write.{Write}
@@ -103,10 +104,7 @@ drains_own k m m' d = told_own k d.threads m m' d.told
 pub told_accepted : (t : ℕ) (m m' : Meaning) (r : Result (Unit {0}) Refusal) → t < 8 → 0 < waiting_count m t → LandsOne Lands t m m' r → Lands (landed t m) m'
 told_accepted t m m' (Ok u) lt some l = l.does
 told_accepted t m m' (Err e) lt some l =
-    let p = land_passes t m lt some in
-    let f = l.fails in
-    let z : ◌≡◌ {A = ℕ} 0 1 = cc in
-    absurd (omega arith)
+    absurd (none-some e (sym (land_passes t m lt some) ∙ l.fails))
 
 -- before its tick the memory below is drained where some write is due by the layer's bound, else it stays
 abbrev pub Quieted : ℕ → Meaning → Meaning → Type 0
@@ -148,7 +146,4 @@ module _ (k : ℕ) (m b : Meaning) where
         below = record { passes = passes; does = record { between = b; quiesces = q; ticks = d } };
       }
   quiet_ticks m' (Err e) q lt t =
-      let p = below_passes q lt in
-      let f = t.fails in
-      let z : ◌≡◌ {A = ℕ} 0 1 = cc in
-      absurd (omega arith)
+      absurd (none-some e (sym (below_passes q lt) ∙ t.fails))
