@@ -5,7 +5,7 @@ ghost use Rattle.tables.specs.Rows.{states_of};
 ghost use Rattle.tables.specs.State.{running, tables_of};
 ghost use Rattle.tables.specs.Threads.{row_of};
 ghost use Rattle.memory.specs.Meaning.{Meaning};
-ghost use Rattle.protocol.specs.Begin.{fits, is_free, named, plain, ready, roomy, sided, single, takes};
+ghost use Rattle.protocol.specs.Begin.{fits, named, ready, roomy, sided, takes};
 ghost use Rattle.protocol.specs.Calls.{Performs};
 ghost use Rattle.protocol.specs.declared.call.Call.TheVariants.{Begin};
 
@@ -17,39 +17,21 @@ use protocol::node::NodeState;
 use protocol::operation::Operation;
 use protocol::settings::Settings;
 
-// An operation that uses no argument.
-fn plain(a: usize, b: usize, operation: Operation) -> Option<Operation>
-    ensures { result ≡ plain a b operation }
-{
-    if a == 0 && b == 0 {
-        Some(operation)
-    } else {
-        None
-    }
-}
-
-// An operation that uses only the first argument.
-fn single(b: usize, operation: Operation) -> Option<Operation>
-    ensures { result ≡ single b operation }
-{
-    if b == 0 { Some(operation) } else { None }
-}
-
 // The operation of this number; none where there is none, or where an unused argument is not 0.
 fn named(number: usize, a: usize, b: usize) -> Option<Operation>
     ensures { result ≡ named number a b }
 {
-    match number {
-        1 => Some(Operation::Protect { root: a, hazard: b }),
-        2 => Some(Operation::Copy { from: a, to: b }),
-        3 => single(b, Operation::Release { hazard: a }),
-        4 => Some(Operation::Publish { root: a, node: b }),
-        5 => single(b, Operation::Remove { root: a }),
-        6 => plain(a, b, Operation::Reclaim),
-        7 => plain(a, b, Operation::OwnerLock),
-        8 => plain(a, b, Operation::OwnerUnlock),
-        9 => plain(a, b, Operation::OtherLock),
-        10 => plain(a, b, Operation::OtherUnlock),
+    match (number, a, b) {
+        (1, root, hazard) => Some(Operation::Protect { root, hazard }),
+        (2, from, to) => Some(Operation::Copy { from, to }),
+        (3, hazard, 0) => Some(Operation::Release { hazard }),
+        (4, root, node) => Some(Operation::Publish { root, node }),
+        (5, root, 0) => Some(Operation::Remove { root }),
+        (6, 0, 0) => Some(Operation::Reclaim),
+        (7, 0, 0) => Some(Operation::OwnerLock),
+        (8, 0, 0) => Some(Operation::OwnerUnlock),
+        (9, 0, 0) => Some(Operation::OtherLock),
+        (10, 0, 0) => Some(Operation::OtherUnlock),
         _ => None,
     }
 }
@@ -66,23 +48,7 @@ fn fits(settings: &Settings, operation: Operation) -> bool
             root < settings.roots && 1 <= node && node <= settings.nodes
         }
         Operation::Remove { root } => root < settings.roots,
-        Operation::Reclaim
-        | Operation::OwnerLock
-        | Operation::OwnerUnlock
-        | Operation::OtherLock
-        | Operation::OtherUnlock => true,
-    }
-}
-
-fn is_free(state: NodeState) -> bool
-    ensures { result ≡ is_free state }
-{
-    match state {
-        NodeState::Free => true,
-        NodeState::Taken { thread: _ }
-        | NodeState::Published { root: _ }
-        | NodeState::Removed { thread: _ }
-        | NodeState::Retired { thread: _ } => false,
+        _ => true,
     }
 }
 
@@ -92,16 +58,11 @@ impl Tables {
         ensures { result ≡ ready (tables_of self.now) (row_of row.now) operation }
     {
         match operation {
-            Operation::Protect { root: _, hazard } => row.guards.at(hazard) == 0,
+            Operation::Protect { hazard, .. } => row.guards.at(hazard) == 0,
             Operation::Copy { from, to } => row.guards.at(to) == 0 && row.guards.at(from) != 0,
             Operation::Release { hazard } => row.guards.at(hazard) != 0,
-            Operation::Publish { root: _, node } => is_free(self.nodes.at(node)),
-            Operation::Remove { root: _ }
-            | Operation::Reclaim
-            | Operation::OwnerLock
-            | Operation::OwnerUnlock
-            | Operation::OtherLock
-            | Operation::OtherUnlock => true,
+            Operation::Publish { node, .. } => self.nodes.at(node) == NodeState::Free,
+            _ => true,
         }
     }
 
@@ -110,16 +71,8 @@ impl Tables {
         ensures { result ≡ roomy (tables_of self.now) (row_of row.now) operation }
     {
         match operation {
-            Operation::Remove { root: _ } => row.retired.len() < self.layout.settings.places,
-            Operation::Protect { root: _, hazard: _ }
-            | Operation::Copy { from: _, to: _ }
-            | Operation::Release { hazard: _ }
-            | Operation::Publish { root: _, node: _ }
-            | Operation::Reclaim
-            | Operation::OwnerLock
-            | Operation::OwnerUnlock
-            | Operation::OtherLock
-            | Operation::OtherUnlock => true,
+            Operation::Remove { .. } => row.retired.len() < self.layout.settings.places,
+            _ => true,
         }
     }
 
@@ -127,7 +80,7 @@ impl Tables {
     fn take(nodes: &mut NodeStates, thread: usize, operation: Operation)
         ensures { states_of nodes.new ≡ takes thread operation (states_of nodes.old) }
     {
-        if let Operation::Publish { root: _, node } = operation {
+        if let Operation::Publish { node, .. } = operation {
             nodes.mark(node as u64, NodeState::Taken { thread });
         }
     }
@@ -202,11 +155,6 @@ fn sided(thread: usize, row: &Thread, operation: Operation) -> bool
         Operation::OwnerUnlock => thread == 0 && row.inside,
         Operation::OtherLock => thread != 0 && !row.inside,
         Operation::OtherUnlock => thread != 0 && row.inside,
-        Operation::Protect { root: _, hazard: _ }
-        | Operation::Copy { from: _, to: _ }
-        | Operation::Release { hazard: _ }
-        | Operation::Publish { root: _, node: _ }
-        | Operation::Remove { root: _ }
-        | Operation::Reclaim => true,
+        _ => true,
     }
 }

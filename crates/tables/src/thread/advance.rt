@@ -49,18 +49,18 @@ impl Thread {
             return self.end(Answer::Done);
         };
         match (operation, self.step, told) {
-            (Operation::Protect { root: _, hazard: _ }, 1, Told::Value(node)) if node != 0 => {
+            (Operation::Protect { .. }, 1, Told::Value(node)) if node != 0 => {
                 self.node = node;
                 self.go_on(2)
             }
-            (Operation::Protect { root: _, hazard: _ }, 1, _) => self.end(Answer::Empty),
-            (Operation::Protect { root: _, hazard: _ }, 2, _) => self.go_on(3),
-            (Operation::Protect { root: _, hazard }, 3, told) if told.value() == self.node => {
+            (Operation::Protect { .. }, 1, _) => self.end(Answer::Empty),
+            (Operation::Protect { .. }, 2, _) => self.go_on(3),
+            (Operation::Protect { hazard, .. }, 3, told) if told.value() == self.node => {
                 self.guards.set(hazard, self.node);
                 self.end(Answer::Ended(self.node))
             }
-            (Operation::Protect { root: _, hazard: _ }, 3, _) => self.go_on(4),
-            (Operation::Protect { root: _, hazard: _ }, _, _) => self.end(Answer::Moved),
+            (Operation::Protect { .. }, 3, _) => self.go_on(4),
+            (Operation::Protect { .. }, _, _) => self.end(Answer::Moved),
             (Operation::Copy { from, to }, _, _) => {
                 let node = self.guards.at(from);
                 self.guards.set(to, node);
@@ -74,16 +74,16 @@ impl Thread {
                 nodes.mark(node as u64, NodeState::Published { root });
                 self.end(Answer::Ended(node as u64))
             }
-            (Operation::Publish { root: _, node }, _, _) => {
+            (Operation::Publish { node, .. }, _, _) => {
                 nodes.mark(node as u64, NodeState::Free);
                 self.end(Answer::Occupied(node as u64))
             }
-            (Operation::Remove { root: _ }, 1, Told::Value(node)) if node != 0 => {
+            (Operation::Remove { .. }, 1, Told::Value(node)) if node != 0 => {
                 self.node = node;
                 self.go_on(2)
             }
-            (Operation::Remove { root: _ }, 1, _) => self.end(Answer::Empty),
-            (Operation::Remove { root: _ }, 2, Told::Done(true)) => {
+            (Operation::Remove { .. }, 1, _) => self.end(Answer::Empty),
+            (Operation::Remove { .. }, 2, Told::Done(true)) => {
                 nodes.mark(
                     self.node,
                     NodeState::Removed {
@@ -92,8 +92,8 @@ impl Thread {
                 );
                 self.go_on(3)
             }
-            (Operation::Remove { root: _ }, 2, _) => self.end(Answer::Moved),
-            (Operation::Remove { root: _ }, _, told) => {
+            (Operation::Remove { .. }, 2, _) => self.end(Answer::Moved),
+            (Operation::Remove { .. }, _, told) => {
                 self.retired.push(Retired {
                     node: self.node as usize,
                     date: told.clock(),

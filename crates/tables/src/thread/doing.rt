@@ -13,11 +13,9 @@ fn last_step(operation: Operation) -> u8
     ensures { result ≡ last_step operation }
 {
     match operation {
-        Operation::Copy { from: _, to: _ }
-        | Operation::Release { hazard: _ }
-        | Operation::Publish { root: _, node: _ } => 1,
-        Operation::Remove { root: _ } | Operation::Reclaim | Operation::OtherUnlock => 3,
-        Operation::Protect { root: _, hazard: _ } | Operation::OwnerUnlock => 4,
+        Operation::Copy { .. } | Operation::Release { .. } | Operation::Publish { .. } => 1,
+        Operation::Remove { .. } | Operation::Reclaim | Operation::OtherUnlock => 3,
+        Operation::Protect { .. } | Operation::OwnerUnlock => 4,
         Operation::OwnerLock => 5,
         Operation::OtherLock => 8,
     }

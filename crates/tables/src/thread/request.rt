@@ -22,12 +22,12 @@ impl Thread {
             return Request::Nothing;
         };
         match (operation, self.step) {
-            (Operation::Protect { root, hazard: _ }, 1 | 3) => Request::Load { cell: root },
-            (Operation::Protect { root: _, hazard }, 2) => Request::Store {
+            (Operation::Protect { root, .. }, 1 | 3) => Request::Load { cell: root },
+            (Operation::Protect { hazard, .. }, 2) => Request::Store {
                 cell: layout.hazard_cell(thread, hazard),
                 value: self.node,
             },
-            (Operation::Protect { root: _, hazard }, _) => Request::Store {
+            (Operation::Protect { hazard, .. }, _) => Request::Store {
                 cell: layout.hazard_cell(thread, hazard),
                 value: 0,
             },
@@ -50,7 +50,7 @@ impl Thread {
                 old: self.node,
                 new: 0,
             },
-            (Operation::Remove { root: _ }, _) => Request::Clock,
+            (Operation::Remove { .. }, _) => Request::Clock,
             (Operation::Reclaim, 1) => Request::Clock,
             (Operation::Reclaim, 2) => Request::Load {
                 cell: layout.settings.roots + self.loaded.len(),
