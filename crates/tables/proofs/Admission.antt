@@ -1,6 +1,8 @@
 -- The checks that calls on a thread have in common, and what a step leaves. Assumes nothing.
-use Rattle.std.proofs.Common.{◌≡◌, ℕ, ◌+◌, ◌<◌, ◌≤◌, true, false, not, List, ◌∷◌, set, Some, None, sym, refl, ap, ◌∙◌, subst}
+use Rattle.std.proofs.Common.{◌≡◌, Bool, cond, Result, Ok, Err, ℕ, ◌+◌, ◌<◌, ◌≤◌, true, false, not, List, ◌∷◌, set, Some, None, sym, refl, ap, ◌∙◌, subst, arith}
 use Rattle.std.proofs.lemmas.Bool.{le-ltb, lt-ltb}
+use Rattle.std.proofs.lemmas.Result.{err_from_is_err_and}
+use Rattle.std.specs.Result.{IsErrAnd}
 use Rattle.memory.specs.Checks.{Check, check, first_no}
 use Rattle.memory.specs.Meaning.{Meaning}
 use Rattle.protocol.specs.declared.answer.Answer.{Answer}
@@ -8,26 +10,45 @@ use Rattle.protocol.specs.declared.answer.Answer.TheVariants.{Refused}
 use Rattle.protocol.specs.declared.answer.Refusal.{Refusal}
 use Rattle.protocol.specs.declared.answer.Refusal.TheVariants.{CallsUsedUp, NoSuchThread, ThreadIdle}
 use Rattle.protocol.specs.declared.call.Call.{Call}
-use Rattle.protocol.specs.declared.call.Call.TheVariants.{Step}
+use Rattle.protocol.specs.declared.call.Call.TheVariants.{Begin, Step}
+use Rattle.protocol.specs.declared.operation.Operation.{Operation}
 use Rattle.protocol.specs.declared.node.NodeState.{NodeState}
 use Rattle.protocol.specs.Calls.{Performs}
 use Rattle.protocol.specs.Steps.{told_nothing, Told, Here, Outcome, request, after}
 use Rattle.protocol.specs.Tables.{Tables, Thread, State, thread_of, doing_at}
 use Rattle.protocol.specs.Transition.{checks_of, first, thread_check, step_asks, request_checks, is_idle, counted, stepped, Meets, refuses, steps}
 use Rattle.protocol.proofs.CallsKept.{performed}
+use Rattle.tables.specs.Asked.{Admits, answer_of}
 
 pub refused : {s : State} {c : Call} {e : Refusal} → first_no (checks_of c s) ≡ Some e → Performs s s c (Refused e)
 refused f = performed (record { told = told_nothing; trans = refuses f refl })
 
-pub calls_used_up : (x : Tables) (rest : Tables → List (Check Refusal)) → 8000 ≤ x.accepted → first_no (first (Some x) rest) ≡ Some CallsUsedUp
-calls_used_up x rest le = rw (le-ltb x.accepted 8000 le) refl
+-- where a `?` hands a refusal on
+pub admits_none : (s : State) (t n a b : ℕ) (r : Result Operation Refusal) (e : Refusal) → IsErrAnd r (λ y. y ≡ e) → first_no (checks_of (Begin t n a b) s) ≡ Some e → Admits s t n a b r
+admits_none s t n a b r e is f = let p = err_from_is_err_and r is in rw p.1 (f ∙ ap Some (sym p.2))
+
+pub exits : {s : State} {c : Call} (r : Result Answer Refusal) (e : Refusal) → IsErrAnd r (λ y. y ≡ e) → first_no (checks_of c s) ≡ Some e → Performs s s c (answer_of r)
+exits r e is f = let p = err_from_is_err_and r is in rw p.1 (refused (f ∙ ap Some (sym p.2)))
+
+-- what the code's `check` gives
+abbrev pub checked : Bool → Refusal → Result (Unit {0}) Refusal
+checked b n = cond b (Ok tt) (Err n)
+
+-- what it has answered says how the check went
+pub said_no : (b b' : Bool) (n e : Refusal) → b ≡ b' → Err e ≡ checked b n → (b' ≡ false) × (Some n ≡ Some e)
+said_no b b' n e same h = (grind (arith, same, h), grind (arith, same, h))
+
+pub said_yes : (b b' : Bool) (n : Refusal) (u : Unit {0}) → b ≡ b' → Ok u ≡ checked b n → b' ≡ true
+said_yes b b' n u same h = grind (arith, same, h)
+
+pub calls_used_up : (x : Tables) (rest : Tables → List (Check Refusal)) (e : Refusal) → (8000 ≤ x.accepted) × (e ≡ CallsUsedUp) → first_no (first (Some x) rest) ≡ Some e
+calls_used_up x rest e h = rw (le-ltb x.accepted 8000 h.0, h.1) refl
 
 pub calls_left : (x : Tables) (rest : Tables → List (Check Refusal)) → x.accepted < 8000 → first_no (first (Some x) rest) ≡ first_no (rest x)
 calls_left x rest lt = rw (lt-ltb x.accepted 8000 lt) refl
 
--- with any checks after that of the thread
-pub no_such_thread : (t : ℕ) (x : Tables) (rest : Tables → List (Check Refusal)) → x.accepted < 8000 → x.settings.threads ≤ t → first_no (first (Some x) (λ y. thread_check t y ∷ rest y)) ≡ Some NoSuchThread
-no_such_thread t x rest few le = rw (lt-ltb x.accepted 8000 few, le-ltb t x.settings.threads le) refl
+pub no_such_thread : (t : ℕ) (x : Tables) (rest : List (Check Refusal)) (e : Refusal) → (x.settings.threads ≤ t) × (e ≡ NoSuchThread) → first_no (thread_check t x ∷ rest) ≡ Some e
+no_such_thread t x rest e h = rw (le-ltb t x.settings.threads h.0, h.1) refl
 
 pub has_thread : (t : ℕ) (x : Tables) (rest : List (Check Refusal)) → t < x.settings.threads → first_no (thread_check t x ∷ rest) ≡ first_no rest
 has_thread t x rest lt = rw (lt-ltb t x.settings.threads lt) refl
@@ -42,6 +63,9 @@ module _ (x : Tables) (m : Meaning) (t : ℕ) where
 
   known : x.accepted < 8000 → t < x.settings.threads → first_no (checks_of (Step t) (record { tables = Some x; memory = m })) ≡ first_no (later (thread_of x t))
   known few lt = calls_left x (step_asks t m) few ∙ has_thread t x (later (thread_of x t)) lt
+
+  pub step_no_thread : (e : Refusal) → x.accepted < 8000 → (x.settings.threads ≤ t) × (e ≡ NoSuchThread) → first_no (checks_of (Step t) (record { tables = Some x; memory = m })) ≡ Some e
+  step_no_thread e few h = calls_left x (step_asks t m) few ∙ no_such_thread t x (later (thread_of x t)) e h
 
   module _ (row : Thread) (is : thread_of x t ≡ row) where
     by_row : first_no (later (thread_of x t)) ≡ first_no (later row)

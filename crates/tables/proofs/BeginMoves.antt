@@ -1,6 +1,6 @@
 -- The checks of a begin, in their order, and what it leaves. Assumes nothing.
 use Rattle.std.proofs.Common.{◌≡◌, ℕ, ◌+◌, ◌<◌, ◌≤◌, true, false, List, [], ◌∷◌, map, get_or, take, set, Some, None, Option, sym, refl, ap, ◌∙◌}
-use Rattle.std.proofs.lemmas.Bool.{and_from, lt-ltb, le-ltb}
+use Rattle.std.proofs.lemmas.Bool.{and_from}
 use Rattle.memory.specs.Checks.{Check, check, first_no}
 use Rattle.memory.specs.Meaning.{Meaning}
 use Rattle.protocol.specs.declared.answer.Answer.TheVariants.{Done}
@@ -22,7 +22,7 @@ use Rattle.tables.specs.declared.thread.Thread.{Thread}
 use Rattle.tables.specs.Rows.{states_of}
 use Rattle.tables.specs.State.{running, tables_of}
 use Rattle.tables.specs.Threads.{at, begins, fitting, row_of}
-use Rattle.tables.proofs.Admission.{calls_left, has_thread}
+use Rattle.tables.proofs.Admission.{calls_left, has_thread, no_such_thread}
 use Rattle.tables.proofs.ThreadTable.{row_at, rows_set}
 
 -- the first step of an operation
@@ -50,30 +50,27 @@ begins_fitting x OwnerUnlock t f m = refl
 begins_fitting x OtherLock t f m = refl
 begins_fitting x OtherUnlock t f m = refl
 
-pub begin_no_thread : (x : Table) (m : Meaning) (t n a b : ℕ) → x.accepted < 8000 → x.settings.threads ≤ t → first_no (checks_of (Begin t n a b) (record { tables = Some x; memory = m })) ≡ Some NoSuchThread
-begin_no_thread x m t n a b few le = rw (lt-ltb x.accepted 8000 few, le-ltb t x.settings.threads le) refl
+-- what is asked after the thread is known, by its row
+abbrev later : Table → ℕ → Row → Option Operation → List (Check Refusal)
+later x t r o =
+    check (is_idle (doing_at r.point)) ThreadBusy
+    ∷ check (asked o (fits x.settings) false) BadOperation
+    ∷ check (asked o (ready x r) true) GuardOrNode
+    ∷ check (asked o (roomy x r) true) ListFull
+    ∷ check (asked o (sided t r) true) WrongSide
+    ∷ []
 
-module _ (x : Tables) (m : Meaning) (t n a b : ℕ) (d : Thread) (few : x.accepted < 8000) (lt : t < x.layout.settings.threads) where
-  abbrev own : Thread
-  own = get_or x.threads t d
+pub begin_no_thread : (x : Table) (m : Meaning) (t n a b : ℕ) (e : Refusal) → x.accepted < 8000 → (x.settings.threads ≤ t) × (e ≡ NoSuchThread) → first_no (checks_of (Begin t n a b) (record { tables = Some x; memory = m })) ≡ Some e
+begin_no_thread x m t n a b e few h = calls_left x (begin_asks t (named n a b)) few ∙ no_such_thread t x (later x t (thread_of x t) (named n a b)) e h
 
+module _ (x : Tables) (m : Meaning) (t n a b : ℕ) (own : Thread) (few : x.accepted < 8000) (known : (t < x.layout.settings.threads) × ((d : Thread) → get_or x.threads t d ≡ own)) where
   abbrev table : Table
   table = tables_of x
 
-  abbrev later : Row → Option Operation → List (Check Refusal)
-  later r o =
-      check (is_idle (doing_at r.point)) ThreadBusy
-      ∷ check (asked o (fits table.settings) false) BadOperation
-      ∷ check (asked o (ready table r) true) GuardOrNode
-      ∷ check (asked o (roomy table r) true) ListFull
-      ∷ check (asked o (sided t r) true) WrongSide
-      ∷ []
-
-  -- what is asked after the thread is known
-  begin_checks : (o : Option Operation) → named n a b ≡ o → first_no (checks_of (Begin t n a b) (running x m)) ≡ first_no (later (row_of own) o)
+  begin_checks : (o : Option Operation) → named n a b ≡ o → first_no (checks_of (Begin t n a b) (running x m)) ≡ first_no (later table t (row_of own) o)
   begin_checks o e =
-      calls_left table (begin_asks t (named n a b)) few ∙ has_thread t table (later (thread_of table t) (named n a b)) lt
-      ∙ ap (λ (r : Row). first_no (later r (named n a b))) (row_at x t d lt) ∙ ap (λ (p : Option Operation). first_no (later (row_of own) p)) e
+      calls_left table (begin_asks t (named n a b)) few ∙ has_thread t table (later table t (thread_of table t) (named n a b)) known.0
+      ∙ rw (row_at x t own known.0, known.1 own, e) refl
 
   pub busy_refused : is_idle (doing_at (at own)) ≡ false → first_no (checks_of (Begin t n a b) (running x m)) ≡ Some ThreadBusy
   busy_refused i = begin_checks (named n a b) refl ∙ rw i refl

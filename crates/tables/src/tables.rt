@@ -1,5 +1,6 @@
 // The machine's tables, once it is set up.
 pub mod begin;
+mod checks;
 pub mod first;
 pub mod land;
 pub mod questions;

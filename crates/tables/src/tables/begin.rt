@@ -11,6 +11,7 @@ ghost use Rattle.protocol.specs.declared.call.Call.TheVariants.{Begin};
 
 use crate::rows::NodeStates;
 use crate::tables::Tables;
+use crate::tables::checks::check;
 use crate::thread::Thread;
 use protocol::answer::{Answer, Refusal};
 use protocol::node::NodeState;
@@ -95,31 +96,17 @@ impl Tables {
     ) -> Result<Operation, Refusal>
         ensures { (m : Meaning) → Admits (running self.now m) thread number a b result }
     {
-        if self.accepted >= 8000 {
-            return Err(Refusal::CallsUsedUp);
-        }
-        if thread >= self.layout.settings.threads {
-            return Err(Refusal::NoSuchThread);
-        }
-        let row = &self.threads[thread];
-        if !row.is_idle() {
-            return Err(Refusal::ThreadBusy);
-        }
-        let Some(operation) = named(number, a, b) else {
-            return Err(Refusal::BadOperation);
-        };
-        if !fits(&self.layout.settings, operation) {
-            return Err(Refusal::BadOperation);
-        }
-        if !self.ready(row, operation) {
-            return Err(Refusal::GuardOrNode);
-        }
-        if !self.roomy(row, operation) {
-            return Err(Refusal::ListFull);
-        }
-        if !sided(thread, row, operation) {
-            return Err(Refusal::WrongSide);
-        }
+        self.calls_left()?;
+        let row = self.known(thread)?;
+        check(row.is_idle(), Refusal::ThreadBusy)?;
+        let operation = named(number, a, b).ok_or(Refusal::BadOperation)?;
+        check(
+            fits(&self.layout.settings, operation),
+            Refusal::BadOperation,
+        )?;
+        check(self.ready(row, operation), Refusal::GuardOrNode)?;
+        check(self.roomy(row, operation), Refusal::ListFull)?;
+        check(sided(thread, row, operation), Refusal::WrongSide)?;
         Ok(operation)
     }
 
@@ -132,17 +119,13 @@ impl Tables {
     ) -> Result<Answer, Refusal>
         ensures { (m : Meaning) → Performs (running self.old m) (running self.new m) (Begin thread number a b) (answer_of result) }
     {
-        match self.admitted(thread, number, a, b) {
-            Ok(operation) => {
-                let mut row = self.threads[thread];
-                row.begin(operation);
-                self.threads[thread] = row;
-                Tables::take(&mut self.nodes, thread, operation);
-                self.accepted += 1;
-                Ok(Answer::Done)
-            }
-            Err(refusal) => Err(refusal),
-        }
+        let operation = self.admitted(thread, number, a, b)?;
+        // the rows are lent first: a place of them lent straight from `self` got no proof
+        let threads = &mut self.threads;
+        threads[thread].begin(operation);
+        Tables::take(&mut self.nodes, thread, operation);
+        self.accepted += 1;
+        Ok(Answer::Done)
     }
 }
 

@@ -13,18 +13,10 @@ impl Tables {
     pub fn land<M: Memory>(&mut self, memory: &mut M, thread: usize) -> Result<Answer, Refusal>
         ensures { Performs (running self.old (M.meaning memory.old)) (running self.new (M.meaning memory.new)) (Land thread) (answer_of result) }
     {
-        if self.accepted >= 8000 {
-            return Err(Refusal::CallsUsedUp);
-        }
-        if thread >= self.layout.settings.threads {
-            return Err(Refusal::NoSuchThread);
-        }
-        match memory.land(thread) {
-            Ok(()) => {
-                self.accepted += 1;
-                Ok(Answer::Done)
-            }
-            Err(_) => Err(Refusal::NothingWaiting),
-        }
+        self.calls_left()?;
+        self.known(thread)?;
+        memory.land(thread).map_err(|_| Refusal::NothingWaiting)?;
+        self.accepted += 1;
+        Ok(Answer::Done)
     }
 }

@@ -1,15 +1,23 @@
 // What the tables can be asked, once the machine is set up.
-ghost use Rattle.std.specs.Prelude.{◌≡◌, Some};
+ghost use Rattle.std.specs.Prelude.{◌≡◌, Some, position};
 ghost use Rattle.tables.specs.State.{tables_of};
 ghost use Rattle.protocol.specs.Plain.{doing_of};
 ghost use Rattle.protocol.specs.Questions.{accepted_shown, doing_shown, guard_shown, hazard_at, inside_shown, is_inside_shown, node_shown, retired_shown};
 ghost use Rattle.std.specs.Option.{option_map};
 
 use crate::tables::Tables;
+use crate::thread::Thread;
 use protocol::doing::Doing;
 use protocol::node::NodeState;
 use protocol::retired::Retired;
 use protocol::settings::Settings;
+
+// The place of the first row that is inside. (A function of its own: in `Tables::inside` the chain got no proof.)
+fn first_inside(rows: &[Thread]) -> Option<usize>
+    ensures { result ≡ position (λ r. r.inside) rows.now }
+{
+    rows.iter().position(|row| row.inside)
+}
 
 impl Tables {
     pub fn settings(&self) -> Settings
@@ -33,15 +41,11 @@ impl Tables {
     pub fn guard(&self, thread: usize, index: usize) -> Option<u64>
         ensures { result ≡ guard_shown (Some (tables_of self.now)) thread index }
     {
-        let Settings {
-            threads,
-            hazards,
-            ..
-        } = self.layout.settings;
-        if thread >= threads || index >= hazards {
+        let row = self.row(thread)?;
+        if index >= self.layout.settings.hazards {
             return None;
         }
-        Some(self.threads[thread].guards.at(index))
+        Some(row.guards.at(index))
     }
 
     pub fn node(&self, node: usize) -> Option<NodeState>
@@ -56,39 +60,25 @@ impl Tables {
     pub fn retired(&self, thread: usize) -> Option<&[Retired]>
         ensures { option_map (λ x. x.now) result ≡ retired_shown (Some (tables_of self.now)) thread }
     {
-        if thread >= self.layout.settings.threads {
-            return None;
-        }
-        Some(self.threads[thread].retired.as_slice())
+        self.row(thread).map(|row| row.retired.as_slice())
     }
 
     pub fn is_inside(&self, thread: usize) -> Option<bool>
         ensures { result ≡ is_inside_shown (Some (tables_of self.now)) thread }
     {
-        if thread >= self.layout.settings.threads {
-            return None;
-        }
-        Some(self.threads[thread].inside)
+        self.row(thread).map(|row| row.inside)
     }
 
     // The first thread that is inside the lock.
     pub fn inside(&self) -> Option<usize>
         ensures { result ≡ inside_shown (Some (tables_of self.now)) }
     {
-        for thread in 0..self.layout.settings.threads {
-            if self.threads[thread].inside {
-                return Some(thread);
-            }
-        }
-        None
+        first_inside(self.rows())
     }
 
     pub fn doing(&self, thread: usize) -> Option<Doing>
         ensures { option_map doing_of result ≡ doing_shown (Some (tables_of self.now)) thread }
     {
-        if thread >= self.layout.settings.threads {
-            return None;
-        }
-        Some(self.threads[thread].doing())
+        self.row(thread).map(Thread::doing)
     }
 }

@@ -8,6 +8,7 @@ ghost use Rattle.protocol.specs.Plain.{request_of};
 
 use crate::context::Context;
 use crate::tables::Tables;
+use crate::tables::checks::check;
 use memory::memory::Memory;
 use protocol::answer::{Answer, Refusal};
 use protocol::request::Request;
@@ -19,24 +20,18 @@ fn ask<M: Memory>(memory: &mut M, thread: usize, request: Request) -> Result<Tol
     ensures { Asked thread request (M.meaning memory.old) (M.meaning memory.new) result }
 {
     match request {
-        Request::Load { cell } => match memory.load(thread, cell) {
-            Ok(value) => Ok(Told::Value(value)),
-            Err(_) => unreachable(),
-        },
-        Request::Store { cell, value } => match memory.store(thread, cell, value) {
-            Ok(()) => Ok(Told::Nothing),
-            Err(_) => Err(Refusal::BufferFull),
-        },
-        Request::Exchange { cell, old, new } => match memory.exchange(thread, cell, old, new) {
-            Ok(done) => Ok(Told::Done(done)),
-            Err(_) => Err(Refusal::WritesWaiting),
-        },
+        Request::Load { cell } => Ok(Told::Value(memory.load(thread, cell).unwrap())),
+        Request::Store { cell, value } => memory
+            .store(thread, cell, value)
+            .map(|()| Told::Nothing)
+            .map_err(|_| Refusal::BufferFull),
+        Request::Exchange { cell, old, new } => memory
+            .exchange(thread, cell, old, new)
+            .map(Told::Done)
+            .map_err(|_| Refusal::WritesWaiting),
         Request::Clock => Ok(Told::Clock(memory.clock())),
         Request::Fence => {
-            if memory.waiting(thread) > 0 {
-                return Err(Refusal::WritesWaiting);
-            }
-            Ok(Told::Nothing)
+            check(memory.waiting(thread) == 0, Refusal::WritesWaiting).map(|()| Told::Nothing)
         }
         Request::Nothing => Ok(Told::Nothing),
     }
@@ -46,24 +41,18 @@ impl Tables {
     pub fn step<M: Memory>(&mut self, memory: &mut M, thread: usize) -> Result<Answer, Refusal>
         ensures { Performs (running self.old (M.meaning memory.old)) (running self.new (M.meaning memory.new)) (Step thread) (answer_of result) }
     {
-        if self.accepted >= 8000 {
-            return Err(Refusal::CallsUsedUp);
-        }
-        if thread >= self.layout.settings.threads {
-            return Err(Refusal::NoSuchThread);
-        }
+        self.calls_left()?;
+        let row = self.known(thread)?;
+        check(!row.is_idle(), Refusal::ThreadIdle)?;
         let context = Context {
             layout: self.layout,
             bound: memory.bound(),
             thread,
         };
-        let mut row = self.threads[thread];
-        if row.is_idle() {
-            return Err(Refusal::ThreadIdle);
-        }
         let told = ask(memory, thread, row.request(&context))?;
-        let answer = row.advance(&context, told, &mut self.nodes);
-        self.threads[thread] = row;
+        // the rows are lent first: a place of them lent straight from `self` got no proof
+        let threads = &mut self.threads;
+        let answer = threads[thread].advance(&context, told, &mut self.nodes);
         self.accepted += 1;
         Ok(answer)
     }

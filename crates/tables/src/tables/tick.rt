@@ -13,15 +13,9 @@ impl Tables {
     pub fn tick<M: Memory>(&mut self, memory: &mut M) -> Result<Answer, Refusal>
         ensures { Performs (running self.old (M.meaning memory.old)) (running self.new (M.meaning memory.new)) Tick (answer_of result) }
     {
-        if self.accepted >= 8000 {
-            return Err(Refusal::CallsUsedUp);
-        }
-        match memory.tick() {
-            Ok(()) => {
-                self.accepted += 1;
-                Ok(Answer::Done)
-            }
-            Err(_) => Err(Refusal::TickRefused),
-        }
+        self.calls_left()?;
+        memory.tick().map_err(|_| Refusal::TickRefused)?;
+        self.accepted += 1;
+        Ok(Answer::Done)
     }
 }

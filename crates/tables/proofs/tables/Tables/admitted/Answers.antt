@@ -1,50 +1,63 @@
-use Rattle.std.proofs.Common.{sym, arith}
+use Rattle.std.proofs.Common.{Ok, ◌≡◌, Some, None, Option, sym, ◌∙◌, arith}
+use Rattle.std.specs.Option.{ok_or}
+use Rattle.protocol.specs.declared.answer.Refusal.{Refusal}
+use Rattle.protocol.specs.declared.answer.Refusal.TheVariants.{BadOperation}
+use Rattle.protocol.specs.declared.operation.Operation.{Operation}
 use Rattle.protocol.specs.Begin.{named}
 use Rattle.protocol.specs.Transition.{begin_asks}
-use Rattle.tables.specs.State.{tables_of}
-use Rattle.tables.proofs.Admission.{calls_used_up}
+use Rattle.tables.specs.State.{running, tables_of}
+use Rattle.tables.proofs.Admission.{admits_none, calls_used_up, said_no, said_yes}
 use Rattle.tables.proofs.BeginMoves.{begin_no_thread, busy_refused, unnamed_refused, unfit_refused, unready_refused, full_refused, wrong_side_refused, begin_passes}
 use Rattle.tables.proofs.tables.Tables.admitted.Goals as goal
 
-pub returns-then-self-ge8000 : goal.returns-then-self-ge8000
-returns-then-self-ge8000 c m = (calls_used_up (tables_of c.args.self.now) (begin_asks c.args.thread (named c.args.number c.args.a c.args.b)) c.if-self-ge8000.true)
+some_from : (o : Option Operation) (p : Operation) (e : Refusal) → Ok p ≡ ok_or o e → o ≡ Some p
+some_from o p e h = grind (arith, h)
 
-pub returns-then-thread-self : goal.returns-then-thread-self
-returns-then-thread-self c m =
-    (begin_no_thread (tables_of c.args.self.now) m c.args.thread c.args.number c.args.a c.args.b c.if-self-ge8000.false c.if-thread-self.true)
+pub returns-in_err-calls_left : goal.returns-in_err-calls_left
+returns-in_err-calls_left c m =
+    admits_none (running c.args.self.now m) c.args.thread c.args.number c.args.a c.args.b _ _ c.from_residual.ensures.1 (calls_used_up (tables_of c.args.self.now) (begin_asks c.args.thread (named c.args.number c.args.a c.args.b)) _ c.in_err-calls_left.ensures)
 
-pub returns-then-not-is_idle : goal.returns-then-not-is_idle
-returns-then-not-is_idle c m =
-    (busy_refused c.args.self.now m c.args.thread c.args.number c.args.a c.args.b c.index-self-thread.result c.if-self-ge8000.false (omega arith) (sym c.if-not-is_idle.ensures))
+pub returns-in_err-row : goal.returns-in_err-row
+returns-in_err-row c m =
+    admits_none (running c.args.self.now m) c.args.thread c.args.number c.args.a c.args.b _ _ c.from_residual-in_err-row.ensures.1 (begin_no_thread (tables_of c.args.self.now) m c.args.thread c.args.number c.args.a c.args.b _ c.in_ok-calls_left.ensures c.in_err-row.ensures)
 
-pub returns-in_default : goal.returns-in_default
-returns-in_default c m =
-    (unnamed_refused c.args.self.now m c.args.thread c.args.number c.args.a c.args.b c.index-self-thread.result c.if-self-ge8000.false (omega arith)
-    (sym c.if-not-is_idle.ensures) (sym c.in_default.ensures))
+pub returns-in_err-check : goal.returns-in_err-check
+returns-in_err-check c m =
+    let no = said_no _ _ _ _ c.is_idle.ensures c.in_err-check.ensures in
+    admits_none (running c.args.self.now m) c.args.thread c.args.number c.args.a c.args.b _ _ c.from_residual-in_err-check.ensures.1 (busy_refused c.args.self.now m c.args.thread c.args.number c.args.a c.args.b c.in_ok-row.row.now c.in_ok-calls_left.ensures c.in_ok-row.ensures no.0 ∙ no.1)
 
-pub returns-then-not-fits : goal.returns-then-not-fits
-returns-then-not-fits c m =
-    (unfit_refused c.args.self.now m c.args.thread c.args.number c.args.a c.args.b c.index-self-thread.result c.if-self-ge8000.false (omega arith)
-    (sym c.if-not-is_idle.ensures) c.in-Some.operation (sym c.in-Some.ensures) (sym c.if-not-fits.ensures))
+pub returns-in_err-operation : goal.returns-in_err-operation
+returns-in_err-operation c m =
+    let h = c.in_err-operation.ensures.value in
+    let none : c.named.result ≡ None = grind (arith, h) in
+    let no : ◌≡◌ {A = Option Refusal} (Some BadOperation) (Some c.in_err-operation.field-0.0) = grind (arith, h) in
+    admits_none (running c.args.self.now m) c.args.thread c.args.number c.args.a c.args.b _ _ c.from_residual-in_err-operation.ensures.1 (unnamed_refused c.args.self.now m c.args.thread c.args.number c.args.a c.args.b c.in_ok-row.row.now c.in_ok-calls_left.ensures c.in_ok-row.ensures (said_yes _ _ _ _ c.is_idle.ensures c.in_ok-check.ensures) (sym c.named.ensures ∙ none) ∙ no)
 
-pub returns-then-not-ready : goal.returns-then-not-ready
-returns-then-not-ready c m =
-    (unready_refused c.args.self.now m c.args.thread c.args.number c.args.a c.args.b c.index-self-thread.result c.if-self-ge8000.false (omega arith)
-    (sym c.if-not-is_idle.ensures) c.in-Some.operation (sym c.in-Some.ensures) (sym c.if-not-fits.ensures) (sym c.if-not-ready.ensures))
+pub returns-in_err-check-2 : goal.returns-in_err-check-2
+returns-in_err-check-2 c m =
+    let named = sym c.named.ensures ∙ some_from _ _ _ c.in_ok-operation.ensures.value in
+    let no = said_no _ _ _ _ c.fits.ensures c.in_err-check-2.ensures in
+    admits_none (running c.args.self.now m) c.args.thread c.args.number c.args.a c.args.b _ _ c.from_residual-in_err-check-2.ensures.1 (unfit_refused c.args.self.now m c.args.thread c.args.number c.args.a c.args.b c.in_ok-row.row.now c.in_ok-calls_left.ensures c.in_ok-row.ensures (said_yes _ _ _ _ c.is_idle.ensures c.in_ok-check.ensures) _ named no.0 ∙ no.1)
 
-pub returns-then-not-roomy : goal.returns-then-not-roomy
-returns-then-not-roomy c m =
-    (full_refused c.args.self.now m c.args.thread c.args.number c.args.a c.args.b c.index-self-thread.result c.if-self-ge8000.false (omega arith)
-    (sym c.if-not-is_idle.ensures) c.in-Some.operation (sym c.in-Some.ensures) (sym c.if-not-fits.ensures) (sym c.if-not-ready.ensures) (sym c.if-not-roomy.ensures))
+pub returns-in_err-check-3 : goal.returns-in_err-check-3
+returns-in_err-check-3 c m =
+    let named = sym c.named.ensures ∙ some_from _ _ _ c.in_ok-operation.ensures.value in
+    let no = said_no _ _ _ _ c.ready.ensures c.in_err-check-3.ensures in
+    admits_none (running c.args.self.now m) c.args.thread c.args.number c.args.a c.args.b _ _ c.from_residual-in_err-check-3.ensures.1 (unready_refused c.args.self.now m c.args.thread c.args.number c.args.a c.args.b c.in_ok-row.row.now c.in_ok-calls_left.ensures c.in_ok-row.ensures (said_yes _ _ _ _ c.is_idle.ensures c.in_ok-check.ensures) _ named (said_yes _ _ _ _ c.fits.ensures c.in_ok-check-2.ensures) no.0 ∙ no.1)
 
-pub returns-then-not-sided : goal.returns-then-not-sided
-returns-then-not-sided c m =
-    (wrong_side_refused c.args.self.now m c.args.thread c.args.number c.args.a c.args.b c.index-self-thread.result c.if-self-ge8000.false (omega arith)
-    (sym c.if-not-is_idle.ensures) c.in-Some.operation (sym c.in-Some.ensures) (sym c.if-not-fits.ensures) (sym c.if-not-ready.ensures) (sym c.if-not-roomy.ensures) (sym c.if-not-sided.ensures))
+pub returns-in_err-check-4 : goal.returns-in_err-check-4
+returns-in_err-check-4 c m =
+    let named = sym c.named.ensures ∙ some_from _ _ _ c.in_ok-operation.ensures.value in
+    let no = said_no _ _ _ _ c.roomy.ensures c.in_err-check-4.ensures in
+    admits_none (running c.args.self.now m) c.args.thread c.args.number c.args.a c.args.b _ _ c.from_residual-in_err-check-4.ensures.1 (full_refused c.args.self.now m c.args.thread c.args.number c.args.a c.args.b c.in_ok-row.row.now c.in_ok-calls_left.ensures c.in_ok-row.ensures (said_yes _ _ _ _ c.is_idle.ensures c.in_ok-check.ensures) _ named (said_yes _ _ _ _ c.fits.ensures c.in_ok-check-2.ensures) (said_yes _ _ _ _ c.ready.ensures c.in_ok-check-3.ensures) no.0 ∙ no.1)
+
+pub returns-in_err-check-5 : goal.returns-in_err-check-5
+returns-in_err-check-5 c m =
+    let named = sym c.named.ensures ∙ some_from _ _ _ c.in_ok-operation.ensures.value in
+    let no = said_no _ _ _ _ c.sided.ensures c.in_err-check-5.ensures in
+    admits_none (running c.args.self.now m) c.args.thread c.args.number c.args.a c.args.b _ _ c.from_residual-in_err-check-5.ensures.1 (wrong_side_refused c.args.self.now m c.args.thread c.args.number c.args.a c.args.b c.in_ok-row.row.now c.in_ok-calls_left.ensures c.in_ok-row.ensures (said_yes _ _ _ _ c.is_idle.ensures c.in_ok-check.ensures) _ named (said_yes _ _ _ _ c.fits.ensures c.in_ok-check-2.ensures) (said_yes _ _ _ _ c.ready.ensures c.in_ok-check-3.ensures) (said_yes _ _ _ _ c.roomy.ensures c.in_ok-check-4.ensures) no.0 ∙ no.1)
 
 pub returns : goal.returns
-returns c m = (
-  begin_passes c.args.self.now m c.args.thread c.args.number c.args.a c.args.b c.index-self-thread.result c.if-self-ge8000.false (omega arith)
-      (sym c.if-not-is_idle.ensures) c.in-Some.operation (sym c.in-Some.ensures) (sym c.if-not-fits.ensures) (sym c.if-not-ready.ensures) (sym c.if-not-roomy.ensures) (sym c.if-not-sided.ensures),
-  sym c.in-Some.ensures,
-)
+returns c m =
+    let named = sym c.named.ensures ∙ some_from _ _ _ c.in_ok-operation.ensures.value in
+    (begin_passes c.args.self.now m c.args.thread c.args.number c.args.a c.args.b c.in_ok-row.row.now c.in_ok-calls_left.ensures c.in_ok-row.ensures (said_yes _ _ _ _ c.is_idle.ensures c.in_ok-check.ensures) _ named (said_yes _ _ _ _ c.fits.ensures c.in_ok-check-2.ensures) (said_yes _ _ _ _ c.ready.ensures c.in_ok-check-3.ensures) (said_yes _ _ _ _ c.roomy.ensures c.in_ok-check-4.ensures) (said_yes _ _ _ _ c.sided.ensures c.in_ok-check-5.ensures), named)

@@ -1,15 +1,18 @@
-use Rattle.std.proofs.Common.{◌<◌, arith}
-use Rattle.std.proofs.lemmas.Bool.{and_from, lt-ltb}
-use Rattle.protocol.specs.Questions.{is_hazard}
-use Rattle.protocol.specs.Steps.{guard_of}
-use Rattle.protocol.specs.Tables.{Thread as Row}
-use Rattle.tables.proofs.RowAnswers.{shown_row}
+use Rattle.std.proofs.Common.{refl, sym, ap, Some}
+use Rattle.std.proofs.lemmas.Bool.{le-ltb, lt-ltb}
+use Rattle.tables.proofs.RowAnswers.{at_none, at_some}
+use Rattle.tables.proofs.ThreadTable.{row_at}
 use Rattle.tables.proofs.tables.Tables.guard.Goals as goal
+
+pub returns-in_err-row : goal.returns-in_err-row
+returns-in_err-row c =
+    let x = c.args.self.now in
+    rw (c.from_residual.ensures, le-ltb c.args.thread x.layout.settings.threads (at_none x c.args.thread (sym c.in_err-row.ensures))) refl
 
 pub returns : goal.returns
 returns c =
     let x = c.args.self.now in
+    let r = c.in_ok-row.row.now in
     let t = c.args.thread in
-    let z = x.layout.settings in
-    let lt : t < z.threads = omega arith in
-    shown_row x t c.index-self-thread.result (is_hazard t c.args.index) (λ (r : Row). guard_of r c.args.index) c.at.result lt (and_from _ _ (lt-ltb t z.threads lt) (lt-ltb c.args.index z.hazards c.if-index-hazards.false)) c.at.ensures
+    let h = at_some x t r r (sym c.in_ok-row.ensures) in
+    rw (lt-ltb t x.layout.settings.threads h.0, lt-ltb c.args.index x.layout.settings.hazards c.if-index-self.false, row_at x t r h.0, h.1) (ap Some c.at.ensures)

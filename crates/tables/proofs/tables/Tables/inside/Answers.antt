@@ -1,22 +1,8 @@
-use Rattle.std.proofs.Common.{◌<◌, sym, ap, ◌∙◌, arith}
-use Rattle.protocol.specs.Tables.{Thread as Row, thread_of}
-use Rattle.protocol.proofs.Asked.{first_found, first_more}
-use Rattle.tables.specs.State.{tables_of}
-use Rattle.tables.proofs.ThreadTable.{row_at}
+use Rattle.std.proofs.Common.{◌∙◌, ap}
+use Rattle.std.specs.Prelude.{position}
+use Rattle.tables.specs.declared.thread.Thread.{Thread}
+use Rattle.tables.proofs.RowAnswers.{first_inside}
 use Rattle.tables.proofs.tables.Tables.inside.Goals as goal
 
-pub returns-then-self-thread : goal.returns-then-self-thread
-returns-then-self-thread c =
-    let x = c.args.self.now in
-    let t = c.loop-thread.thread in
-    let lt : t < x.layout.settings.threads = omega arith in
-    let row = row_at x t c.index-self-thread.result lt in
-    sym (first_found x.layout.settings.threads t (λ u. (thread_of (tables_of x) u).inside) lt c.loop-thread.invariant (ap (λ (r : Row). r.inside) row ∙ c.if-self-thread.true))
-
-pub loop-thread-preserved : goal.loop-thread-preserved
-loop-thread-preserved c =
-    let x = c.args.self.now in
-    let t = c.loop-thread.thread in
-    let lt : t < x.layout.settings.threads = omega arith in
-    let row = row_at x t c.index-self-thread.result lt in
-    first_more t (λ u. (thread_of (tables_of x) u).inside) c.loop-thread.invariant (ap (λ (r : Row). r.inside) row ∙ c.if-self-thread.false)
+pub returns : goal.returns
+returns c = first_inside c.args.self.now c.first_inside.result (c.first_inside.ensures ∙ ap (position (λ (r : Thread). r.inside)) c.rows.ensures)

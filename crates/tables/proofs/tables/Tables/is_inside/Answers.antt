@@ -1,14 +1,11 @@
-use Rattle.std.proofs.Common.{◌<◌, refl, arith}
-use Rattle.std.proofs.lemmas.Bool.{lt-ltb}
-use Rattle.protocol.specs.Questions.{is_thread}
+use Rattle.std.proofs.Common.{◌≡◌, ◌∙◌, rules}
+use Rattle.std.specs.Option.{option_map}
 use Rattle.protocol.specs.Tables.{Thread as Row}
+use Rattle.tables.specs.declared.thread.Thread.{Thread}
 use Rattle.tables.proofs.RowAnswers.{shown_row}
 use Rattle.tables.proofs.tables.Tables.is_inside.Goals as goal
 
 pub returns : goal.returns
 returns c =
-    let x = c.args.self.now in
-    let t = c.args.thread in
-    let z = x.layout.settings in
-    let lt : t < z.threads = omega arith in
-    shown_row x t c.index-self-thread.result (is_thread t) (λ (r : Row). r.inside) (_) lt (lt-ltb t z.threads lt) (refl)
+    let e : c.map.result ≡ option_map (λ (r : Thread). r.inside) (option_map (λ r. r.now) c.row.result) = search rules in
+    e ∙ shown_row c.args.self.now c.args.thread (λ (r : Row). r.inside) _ c.row.ensures

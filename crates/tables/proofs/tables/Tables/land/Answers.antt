@@ -1,24 +1,28 @@
-use Rattle.std.proofs.Common.{arith}
+use Rattle.std.proofs.Common.{◌≡◌, Err, sym, ◌∙◌, rules, arith}
+use Rattle.std.specs.Result.{result_or}
+use Rattle.protocol.specs.declared.answer.Refusal.TheVariants.{NothingWaiting}
 use Rattle.protocol.specs.Transition.{land_asks}
 use Rattle.tables.specs.State.{tables_of}
-use Rattle.tables.proofs.Admission.{refused, calls_used_up}
+use Rattle.tables.proofs.Admission.{exits, calls_used_up}
 use Rattle.tables.proofs.MemoryMoves.{land_no_thread, land_done, land_refused}
 use Rattle.tables.proofs.tables.Tables.land.Goals as goal
 
-pub returns-then-self-ge8000 : goal.returns-then-self-ge8000
-returns-then-self-ge8000 g c = refused (calls_used_up (tables_of c.args.self.now) (land_asks c.args.thread (g.M.Memory.meaning c.args.memory.now)) c.if-self-ge8000.true)
+pub returns-in_err-calls_left : goal.returns-in_err-calls_left
+returns-in_err-calls_left g c = exits _ _ c.from_residual.ensures.1 (calls_used_up (tables_of c.args.self.now) (land_asks c.args.thread (g.M.Memory.meaning c.args.memory.now)) _ c.in_err-calls_left.ensures)
 
-pub returns-then-thread-self : goal.returns-then-thread-self
-returns-then-thread-self g c = refused (land_no_thread (tables_of c.args.self.now) (g.M.Memory.meaning c.args.memory.now) c.args.thread (omega arith) c.if-thread-self.true)
+pub returns-in_err-known : goal.returns-in_err-known
+returns-in_err-known g c = exits _ _ c.from_residual-in_err-known.ensures.1 (land_no_thread (tables_of c.args.self.now) (g.M.Memory.meaning c.args.memory.now) c.args.thread _ c.in_ok-calls_left.ensures c.in_err-known.ensures)
 
-pub returns-in-Ok : goal.returns-in-Ok
-returns-in-Ok g c =
-    let h = c.in-Ok.ensures in
-    let high = c.args.self.now.layout.threads_high in
-    land_done (tables_of c.args.self.now) (g.M.Memory.meaning c.args.memory.now) (g.M.Memory.meaning c.land.new.self) c.args.thread c.if-self-ge8000.false (omega arith) (omega arith) h.passes h.does
+pub returns-in_err-map_err : goal.returns-in_err-map_err
+returns-in_err-map_err g c =
+    let x = c.args.self.now in
+    let high = x.layout.threads_high in
+    let e : c.map_err.result ≡ result_or c.land.result (Err NothingWaiting) = search rules in
+    land_refused (tables_of x) (g.M.Memory.meaning c.args.memory.now) (g.M.Memory.meaning c.land.new.self) c.args.thread c.in_ok-calls_left.ensures c.in_ok-known.ensures.0 (omega (arith, c.in_ok-known.ensures.0)) c.land.result _ _ c.land.ensures (sym c.in_err-map_err.was ∙ e) c.from_residual-in_err-map_err.ensures.1
 
-pub returns-in-Err : goal.returns-in-Err
-returns-in-Err g c =
-    let h = c.in-Err.ensures in
-    let high = c.args.self.now.layout.threads_high in
-    land_refused (tables_of c.args.self.now) (g.M.Memory.meaning c.args.memory.now) (g.M.Memory.meaning c.land.new.self) c.args.thread c.if-self-ge8000.false (omega arith) (omega arith) c.in-Err.field-0 h.fails h.same
+pub returns : goal.returns
+returns g c =
+    let x = c.args.self.now in
+    let high = x.layout.threads_high in
+    let e : c.map_err.result ≡ result_or c.land.result (Err NothingWaiting) = search rules in
+    land_done (tables_of x) (g.M.Memory.meaning c.args.memory.now) (g.M.Memory.meaning c.land.new.self) c.args.thread c.in_ok-calls_left.ensures c.in_ok-known.ensures.0 (omega (arith, c.in_ok-known.ensures.0)) c.land.result _ c.land.ensures (sym c.in_ok-map_err.was ∙ e)

@@ -1,14 +1,12 @@
-use Rattle.std.proofs.Common.{◌<◌, arith}
-use Rattle.std.proofs.lemmas.Bool.{lt-ltb}
-use Rattle.protocol.specs.Questions.{is_thread}
+use Rattle.std.proofs.Common.{◌≡◌, ◌∙◌, rules}
+use Rattle.std.specs.Option.{option_map}
 use Rattle.protocol.specs.Tables.{Thread as Row}
+use Rattle.tables.specs.declared.thread.Thread.{Thread}
+use Rattle.tables.specs.Rows.{list_of}
 use Rattle.tables.proofs.RowAnswers.{shown_row}
 use Rattle.tables.proofs.tables.Tables.retired.Goals as goal
 
 pub returns : goal.returns
 returns c =
-    let x = c.args.self.now in
-    let t = c.args.thread in
-    let z = x.layout.settings in
-    let lt : t < z.threads = omega arith in
-    shown_row x t c.index-self-thread.result (is_thread t) (λ (r : Row). r.retired) c.as_slice.result.now lt (lt-ltb t z.threads lt) c.as_slice.ensures
+    let e : option_map (λ x. x.now) c.map.result ≡ option_map (λ (r : Thread). list_of r.retired) (option_map (λ r. r.now) c.row.result) = search rules in
+    e ∙ shown_row c.args.self.now c.args.thread (λ (r : Row). r.retired) _ c.row.ensures
