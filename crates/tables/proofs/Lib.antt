@@ -1,7 +1,6 @@
 pub mod Admission
 pub mod BeginMoves
 pub mod FirstTables
-pub mod FittingFacts
 pub mod LayoutFacts
 pub mod MemoryMoves
 pub mod RequestCells

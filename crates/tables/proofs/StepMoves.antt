@@ -13,7 +13,7 @@ use Rattle.protocol.specs.Tables.{doing_at, thread_of}
 use Rattle.protocol.specs.Transition.{checks_of, request_checks, is_idle, Meets}
 use Rattle.protocol.proofs.PlacedMemory.{ranges}
 use Rattle.tables.specs.Asked.{InCells, answer_of}
-use Rattle.tables.specs.declared.rows.NodeStates.{NodeStates}
+use Rattle.dated.specs.declared.fixed_row.FixedRow.{FixedRow}
 use Rattle.tables.specs.declared.tables.Tables.{Tables}
 use Rattle.tables.specs.declared.thread.Thread.{Thread}
 use Rattle.tables.specs.Rows.{list_of, loaded_of, states_of}
@@ -52,7 +52,7 @@ module _ (x : Tables) (m : Meaning) (t b : ℕ) (own : Thread) (few : x.accepted
     pub step_refused : (m' : Meaning) (e : Refusal) (r : Result Answer Refusal) → IsErrAnd r (λ y. y ≡ e) → first_no (request_checks t m q) ≡ Some e → m' ≡ m → Performs (running x m) (running x m') (Step t) (answer_of r)
     step_refused m' e r is f same = rw same (exits r e is (step_checks ∙ f))
 
-    pub step_done : (m' : Meaning) (d row' : Thread) (ns' : NodeStates) (a : Answer) (k : Told)
+    pub step_done : (m' : Meaning) (d row' : Thread) (ns' : FixedRow NodeState 65) (a : Answer) (k : Told)
         → first_no (request_checks t m q) ≡ None
         → Meets t q m m' k
         → outcome_of row' ns' a ≡ after (sees b (get_or x.threads t d) (states_of x.nodes)) (at (get_or x.threads t d)) k

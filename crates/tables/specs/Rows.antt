@@ -1,20 +1,18 @@
 -- What the rows of the tables mean. Assumes nothing.
-use Rattle.std.specs.Prelude.{ℕ, List, take}
+use Rattle.std.specs.Prelude.{ℕ, List}
+use Rattle.dated.specs.declared.fixed_row.FixedRow.{FixedRow}
+use Rattle.dated.specs.FixedRow.{entries_of}
 use Rattle.protocol.specs.declared.node.NodeState.{NodeState}
 use Rattle.protocol.specs.declared.retired.Retired.{Retired}
-use Rattle.tables.specs.declared.rows.HazardGuards.{HazardGuards}
-use Rattle.tables.specs.declared.rows.NodeStates.{NodeStates}
-use Rattle.tables.specs.declared.rows.RetireList.{RetireList}
-use Rattle.tables.specs.declared.rows.LoadedCells.{LoadedCells}
 
-unfoldable pub guards_of : HazardGuards → List ℕ
-guards_of g = take g.count g.nodes
+abbrev pub guards_of : FixedRow ℕ 4 → List ℕ
+guards_of g = entries_of g
 
-unfoldable pub list_of : RetireList → List Retired
-list_of l = take l.len l.entries
+abbrev pub list_of : FixedRow Retired 48 → List Retired
+list_of l = entries_of l
 
-unfoldable pub loaded_of : LoadedCells → List ℕ
-loaded_of s = take s.len s.values
+abbrev pub loaded_of : FixedRow ℕ 32 → List ℕ
+loaded_of s = entries_of s
 
-unfoldable pub states_of : NodeStates → List NodeState
-states_of n = take n.count n.states
+abbrev pub states_of : FixedRow NodeState 65 → List NodeState
+states_of n = entries_of n

@@ -10,7 +10,7 @@ use Rattle.protocol.specs.Settings.{hazard_cells}
 use Rattle.protocol.specs.Steps.{Here, Outcome}
 use Rattle.protocol.specs.Tables.{Point, Thread as Row, idle, protect1, protect2, protect3, protect4, copy1, release1, publish1, remove1, remove2, remove3, reclaim1, reclaim2, reclaim3, owner_lock1, owner_lock2, owner_lock3, owner_lock4, owner_lock5, owner_unlock1, owner_unlock2, owner_unlock3, owner_unlock4, other_lock1, other_lock2, other_lock3, other_lock4, other_lock5, other_lock6, other_lock7, other_lock8, other_unlock1, other_unlock2, other_unlock3}
 use Rattle.tables.specs.declared.context.Context.{Context}
-use Rattle.tables.specs.declared.rows.NodeStates.{NodeStates}
+use Rattle.dated.specs.declared.fixed_row.FixedRow.{FixedRow}
 use Rattle.tables.specs.declared.thread.Thread.{Thread}
 use Rattle.tables.specs.Rows.{guards_of, list_of, loaded_of, states_of}
 
@@ -56,7 +56,7 @@ row_of t = record { point = at t; guards = guards_of t.guards; retired = list_of
 abbrev pub here_at : Context → Thread → List NodeState → Here
 here_at x t ns = record { settings = x.layout.settings; bound = x.bound; thread = x.thread; own = row_of t; nodes = ns }
 
-abbrev pub outcome_of : Thread → NodeStates → Answer → Outcome
+abbrev pub outcome_of : Thread → FixedRow NodeState 65 → Answer → Outcome
 outcome_of t ns a = record { own = row_of t; nodes = states_of ns; answer = a }
 
 -- a step that goes on, and one that ends

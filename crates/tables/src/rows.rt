@@ -1,45 +1,28 @@
-// The rows that the tables are made of. Each is the first places of an array of fixed size; what stands behind them does not
-// count.
-pub(crate) mod hazard_guards;
-pub(crate) mod loaded_cells;
-pub(crate) mod node_states;
-pub(crate) mod retire_list;
+// The rows that the tables are made of, each in a fixed number of places.
+pub(crate) mod sweep;
 
-ghost use Rattle.std.specs.Prelude.{◌≡◌, ◌≤◌, length};
+ghost use Rattle.std.specs.Prelude.{◌≡◌, slice_index_or};
+ghost use Rattle.dated.specs.FixedRow.{entries_of};
 
+use dated::fixed_row::FixedRow;
 use protocol::node::NodeState;
 use protocol::retired::Retired;
 
 // The node that each hazard index of a thread guards, 0 for none.
-#[derive(Clone, Copy)]
-pub struct HazardGuards {
-    nodes: [u64; 4],
-    count: usize,
-    ghost places: { length nodes ≡ 4 },
-}
+pub type HazardGuards = FixedRow<u64, 4>;
 
 // The nodes that a thread has retired and not freed since, oldest first.
-#[derive(Clone, Copy)]
-pub struct RetireList {
-    entries: [Retired; 48],
-    len: usize,
-    ghost places: { length entries ≡ 48 },
-    ghost within: { len ≤ 48 },
-}
+pub type RetireList = FixedRow<Retired, 48>;
 
 // The values of the hazard cells that a reclaim has loaded so far.
-#[derive(Clone, Copy)]
-pub struct LoadedCells {
-    values: [u64; 32],
-    len: usize,
-    ghost places: { length values ≡ 32 },
-    ghost within: { len ≤ 32 },
-}
+pub type LoadedCells = FixedRow<u64, 32>;
 
 // Where each node is, by number. Place 0 stands for no node.
-#[derive(Clone, Copy)]
-pub struct NodeStates {
-    states: [NodeState; 65],
-    count: usize,
-    ghost places: { length states ≡ 65 },
+pub type NodeStates = FixedRow<NodeState, 65>;
+
+// The entry at the index, `other` where there is none.
+pub(crate) fn at_or<T: Copy, const N: usize>(row: &FixedRow<T, N>, index: usize, other: T) -> T
+    ensures { result ≡ slice_index_or (entries_of row.now) index other }
+{
+    row.as_slice().get(index).copied().unwrap_or(other)
 }

@@ -9,7 +9,7 @@ ghost use Rattle.protocol.specs.Begin.{fits, named, ready, roomy, sided, takes};
 ghost use Rattle.protocol.specs.Calls.{Performs};
 ghost use Rattle.protocol.specs.declared.call.Call.TheVariants.{Begin};
 
-use crate::rows::NodeStates;
+use crate::rows::{NodeStates, at_or};
 use crate::tables::Tables;
 use crate::tables::checks::check;
 use crate::thread::Thread;
@@ -59,10 +59,12 @@ impl Tables {
         ensures { result ≡ ready (tables_of self.now) (row_of row.now) operation }
     {
         match operation {
-            Operation::Protect { hazard, .. } => row.guards.at(hazard) == 0,
-            Operation::Copy { from, to } => row.guards.at(to) == 0 && row.guards.at(from) != 0,
-            Operation::Release { hazard } => row.guards.at(hazard) != 0,
-            Operation::Publish { node, .. } => self.nodes.at(node) == NodeState::Free,
+            Operation::Protect { hazard, .. } => at_or(&row.guards, hazard, 0) == 0,
+            Operation::Copy { from, to } => at_or(&row.guards, to, 0) == 0
+                && at_or(&row.guards, from, 0) != 0,
+            Operation::Release { hazard } => at_or(&row.guards, hazard, 0) != 0,
+            Operation::Publish { node, .. } => at_or(&self.nodes, node, NodeState::Free)
+                == NodeState::Free,
             _ => true,
         }
     }
@@ -72,7 +74,7 @@ impl Tables {
         ensures { result ≡ roomy (tables_of self.now) (row_of row.now) operation }
     {
         match operation {
-            Operation::Remove { .. } => row.retired.len() < self.layout.settings.places,
+            Operation::Remove { .. } => row.retired.as_slice().len() < self.layout.settings.places,
             _ => true,
         }
     }
@@ -82,7 +84,7 @@ impl Tables {
         ensures { states_of nodes.new ≡ takes thread operation (states_of nodes.old) }
     {
         if let Operation::Publish { node, .. } = operation {
-            nodes.mark(node as u64, NodeState::Taken { thread });
+            nodes.set(node, NodeState::Taken { thread });
         }
     }
 

@@ -8,6 +8,7 @@ use crate::layout::Layout;
 use crate::rows::NodeStates;
 use crate::tables::Tables;
 use crate::thread::Thread;
+use protocol::node::NodeState;
 
 impl Tables {
     pub fn first(layout: Layout) -> Tables
@@ -17,7 +18,7 @@ impl Tables {
         Tables {
             layout,
             threads: [Thread::idle(settings.hazards); 8],
-            nodes: NodeStates::all_free(settings.nodes),
+            nodes: NodeStates::repeat(NodeState::Free, settings.nodes + 1),
             accepted: 0,
         }
     }

@@ -5,6 +5,7 @@ ghost use Rattle.protocol.specs.Plain.{doing_of};
 ghost use Rattle.protocol.specs.Questions.{accepted_shown, doing_shown, guard_shown, hazard_at, inside_shown, is_inside_shown, node_shown, retired_shown};
 ghost use Rattle.std.specs.Option.{option_map};
 
+use crate::rows::at_or;
 use crate::tables::Tables;
 use crate::thread::Thread;
 use protocol::doing::Doing;
@@ -45,7 +46,7 @@ impl Tables {
         if index >= self.layout.settings.hazards {
             return None;
         }
-        Some(row.guards.at(index))
+        Some(at_or(&row.guards, index, 0))
     }
 
     pub fn node(&self, node: usize) -> Option<NodeState>
@@ -54,7 +55,7 @@ impl Tables {
         if node < 1 || node > self.layout.settings.nodes {
             return None;
         }
-        Some(self.nodes.at(node))
+        Some(at_or(&self.nodes, node, NodeState::Free))
     }
 
     pub fn retired(&self, thread: usize) -> Option<&[Retired]>

@@ -7,8 +7,8 @@ ghost use Rattle.protocol.specs.Plain.{told_of};
 ghost use Rattle.protocol.specs.Steps.{after};
 
 use crate::context::Context;
-use crate::rows::retire_list::Sweep;
-use crate::rows::{LoadedCells, NodeStates};
+use crate::rows::sweep::Sweep;
+use crate::rows::{LoadedCells, NodeStates, at_or};
 use crate::thread::Thread;
 use protocol::answer::Answer;
 use protocol::node::NodeState;
@@ -62,7 +62,7 @@ impl Thread {
             (Operation::Protect { .. }, 3, _) => self.go_on(4),
             (Operation::Protect { .. }, _, _) => self.end(Answer::Moved),
             (Operation::Copy { from, to }, _, _) => {
-                let node = self.guards.at(from);
+                let node = at_or(&self.guards, from, 0);
                 self.guards.set(to, node);
                 self.end(Answer::Ended(node))
             }
@@ -71,11 +71,11 @@ impl Thread {
                 self.end(Answer::Ended(0))
             }
             (Operation::Publish { root, node }, _, Told::Done(true)) => {
-                nodes.mark(node as u64, NodeState::Published { root });
+                nodes.set(node, NodeState::Published { root });
                 self.end(Answer::Ended(node as u64))
             }
             (Operation::Publish { node, .. }, _, _) => {
-                nodes.mark(node as u64, NodeState::Free);
+                nodes.set(node, NodeState::Free);
                 self.end(Answer::Occupied(node as u64))
             }
             (Operation::Remove { .. }, 1, Told::Value(node)) if node != 0 => {
@@ -84,8 +84,8 @@ impl Thread {
             }
             (Operation::Remove { .. }, 1, _) => self.end(Answer::Empty),
             (Operation::Remove { .. }, 2, Told::Done(true)) => {
-                nodes.mark(
-                    self.node,
+                nodes.set(
+                    self.node as usize,
                     NodeState::Removed {
                         thread: context.thread,
                     },
@@ -94,12 +94,13 @@ impl Thread {
             }
             (Operation::Remove { .. }, 2, _) => self.end(Answer::Moved),
             (Operation::Remove { .. }, _, told) => {
-                self.retired.push(Retired {
+                let retired = Retired {
                     node: self.node as usize,
                     date: told.clock(),
-                });
-                nodes.mark(
-                    self.node,
+                };
+                self.retired.append(retired).unwrap();
+                nodes.set(
+                    self.node as usize,
                     NodeState::Retired {
                         thread: context.thread,
                     },
@@ -108,16 +109,16 @@ impl Thread {
             }
             (Operation::Reclaim, 1, told) => {
                 self.clock = told.clock();
-                self.loaded = LoadedCells::empty();
+                self.loaded = LoadedCells::empty(0);
                 self.go_on(2)
             }
             (Operation::Reclaim, 2, told)
-                if self.loaded.len() + 1 < context.layout.hazard_cells() => {
-                self.loaded.push(told.value());
+                if self.loaded.as_slice().len() + 1 < context.layout.hazard_cells() => {
+                self.loaded.push(told.value()).unwrap();
                 self.go_on(2)
             }
             (Operation::Reclaim, 2, told) => {
-                self.loaded.push(told.value());
+                self.loaded.push(told.value()).unwrap();
                 self.go_on(3)
             }
             (Operation::Reclaim, _, _) => {
@@ -126,7 +127,7 @@ impl Thread {
                     clock: self.clock,
                     loaded: self.loaded,
                 };
-                let freed = self.retired.sweep(&sweep, nodes);
+                let freed = sweep.run(&mut self.retired, nodes);
                 self.end(Answer::Ended(freed as u64))
             }
             (Operation::OwnerLock, 1, _) => self.go_on(2),

@@ -8,6 +8,7 @@ ghost use Rattle.protocol.specs.Transition.{is_idle};
 use crate::rows::{HazardGuards, LoadedCells, RetireList};
 use crate::thread::Thread;
 use protocol::operation::Operation;
+use protocol::retired::Retired;
 
 impl Thread {
     pub(crate) fn idle(hazards: usize) -> Thread
@@ -21,9 +22,9 @@ impl Thread {
             node: 0,
             version: 0,
             clock: 0,
-            loaded: LoadedCells::empty(),
-            guards: HazardGuards::none(hazards),
-            retired: RetireList::empty(),
+            loaded: LoadedCells::empty(0),
+            guards: HazardGuards::repeat(0, hazards),
+            retired: RetireList::empty(Retired { node: 0, date: 0 }),
             inside: false,
         }
     }

@@ -6,6 +6,7 @@ ghost use Rattle.protocol.specs.Plain.{request_of};
 ghost use Rattle.protocol.specs.Steps.{request};
 
 use crate::context::Context;
+use crate::rows::at_or;
 use crate::thread::Thread;
 use protocol::operation::Operation;
 use protocol::request::Request;
@@ -33,7 +34,7 @@ impl Thread {
             },
             (Operation::Copy { from, to }, _) => Request::Store {
                 cell: layout.hazard_cell(thread, to),
-                value: self.guards.at(from),
+                value: at_or(&self.guards, from, 0),
             },
             (Operation::Release { hazard }, _) => Request::Store {
                 cell: layout.hazard_cell(thread, hazard),
@@ -53,7 +54,7 @@ impl Thread {
             (Operation::Remove { .. }, _) => Request::Clock,
             (Operation::Reclaim, 1) => Request::Clock,
             (Operation::Reclaim, 2) => Request::Load {
-                cell: layout.settings.roots + self.loaded.len(),
+                cell: layout.settings.roots + self.loaded.as_slice().len(),
             },
             (Operation::Reclaim, _) => Request::Nothing,
             (Operation::OwnerLock, 1) => Request::Store {

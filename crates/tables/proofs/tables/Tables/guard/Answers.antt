@@ -15,4 +15,4 @@ returns c =
     let r = c.in_ok-row.row.now in
     let t = c.args.thread in
     let h = at_some x t r r (sym c.in_ok-row.ensures) in
-    rw (lt-ltb t x.layout.settings.threads h.0, lt-ltb c.args.index x.layout.settings.hazards c.if-index-self.false, row_at x t r h.0, h.1) (ap Some c.at.ensures)
+    rw (lt-ltb t x.layout.settings.threads h.0, lt-ltb c.args.index x.layout.settings.hazards c.if-index-self.false, row_at x t r h.0, h.1) (ap Some c.at_or.ensures)

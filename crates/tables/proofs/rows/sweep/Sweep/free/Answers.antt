@@ -1,12 +1,13 @@
 use Rattle.std.proofs.Common.{◌≡◌, Bool, true, false, cond, not, List, ◌∷◌, set, filter, sym, ap, ◌∙◌, arith}
+use Rattle.std.proofs.lemmas.List.{drop_more, drop_all}
 use Rattle.protocol.specs.declared.node.NodeState.{NodeState}
 use Rattle.protocol.specs.declared.node.NodeState.TheVariants.{Free}
 use Rattle.protocol.specs.declared.retired.Retired.{Retired}
 use Rattle.protocol.specs.Steps.{keeps, freed, freeing}
-use Rattle.tables.specs.Rows.{list_of, loaded_of, states_of}
-use Rattle.tables.proofs.RowLemmas.{row_drop_more, row_drop_all, kept_next}
-use Rattle.tables.proofs.rows.RetireList.free.Goals as goal
-use Rattle.tables.proofs.rows.RetireList.free.Goals.{then-not-keeps, else-not-keeps}
+use Rattle.tables.specs.Rows.{loaded_of, states_of}
+use Rattle.tables.proofs.RowLemmas.{kept_next}
+use Rattle.tables.proofs.rows.sweep.Sweep.free.Goals as goal
+use Rattle.tables.proofs.rows.sweep.Sweep.free.Goals.{then-not-keeps, else-not-keeps}
 
 -- what a read past the end would give
 abbrev nil : Retired
@@ -22,24 +23,18 @@ free_next k false l e r ns ns' is h to =
     let f : Retired → Bool = λ x. not (k x) in
     ap (freeing (filter f r)) to ∙ sym (ap (λ (q : List Retired). freeing q ns) (kept_next f true l e r is (ap not h)))
 
-pub loop-i-preserved : goal.loop-i-preserved
-unfolding list_of
-loop-i-preserved c =
-    let l = c.args.self.now in
-    let s = c.args.sweep.now in
-    let more = row_drop_more l.len l.entries c.loop-i.i nil (omega arith) (omega arith) in
+pub loop-entry-preserved : goal.loop-entry-preserved
+loop-entry-preserved c =
+    let s = c.args.self.now in
+    let more = drop_more c.as_slice-entry-items.result.now c.loop-entry.entry-index nil c.loop-entry-test.true in
     elim c.if-not-keeps.branch [
-      | then-not-keeps w ↦ free_next (keeps s.bound s.clock (loaded_of s.loaded)) false _ _ _ _ _ more (sym w.if-not-keeps.ensures) (ap states_of w.nodes-is ∙ w.mark.ensures) ∙ c.loop-i.invariant
-      | else-not-keeps w ↦ free_next (keeps s.bound s.clock (loaded_of s.loaded)) true _ _ _ _ _ more (sym w.if-not-keeps.ensures) (ap states_of w.nodes-is) ∙ c.loop-i.invariant
+      | then-not-keeps w ↦ free_next (keeps s.bound s.clock (loaded_of s.loaded)) false _ _ _ _ _ more (sym w.if-not-keeps.ensures) (ap states_of w.nodes-is ∙ w.set.ensures) ∙ c.loop-entry.invariant
+      | else-not-keeps w ↦ free_next (keeps s.bound s.clock (loaded_of s.loaded)) true _ _ _ _ _ more (sym w.if-not-keeps.ensures) (ap states_of w.nodes-is) ∙ c.loop-entry.invariant
     ]
 
 pub returns : goal.returns
-unfolding list_of
 returns c =
-    let l = c.args.self.now in
-    let s = c.args.sweep.now in
-    sym
-    (ap
-    (λ (q : List Retired). freeing (freed s.bound s.clock (loaded_of s.loaded) q) (states_of c.loop-i.nodes))
-    (row_drop_all l.len l.entries c.loop-i.i (omega arith) (omega arith)))
-    ∙ c.loop-i.invariant
+    let s = c.args.self.now in
+    let f = freed s.bound s.clock (loaded_of s.loaded) in
+    sym (ap (λ (q : List Retired). freeing (f q) (states_of c.loop-entry.nodes)) (drop_all c.loop-entry.entry-index c.as_slice-entry-items.result.now (omega arith)))
+    ∙ c.loop-entry.invariant ∙ ap (λ (q : List Retired). freeing (f q) (states_of c.args.nodes.now)) c.as_slice-entry-items.ensures.entries

@@ -1,7 +1,0 @@
-use Rattle.std.proofs.Common.{refl}
-use Rattle.tables.specs.Rows.{list_of}
-use Rattle.tables.proofs.rows.RetireList.as_slice.Goals as goal
-
-pub returns : goal.returns
-unfolding list_of
-returns c = refl
