@@ -1,16 +1,21 @@
 // The cells: roots, then the hazard cells thread by thread, then the lock and its two flags.
-ghost use Rattle.std.specs.Prelude.{◌≡◌, ◌<◌, if◌then◌else◌, Some, None};
+ghost use Rattle.std.specs.Prelude.{◌≡◌, ◌+◌, ◌<◌, if◌then◌else◌, Some, None};
 ghost use Rattle.tables.specs.Layout.{settings_of};
 ghost use Rattle.protocol.specs.Questions.{hazard_at};
-ghost use Rattle.protocol.specs.Settings.{in_range, hazard_cells, hazard_cell, lock_cell, flag0_cell, flag1_cell};
+ghost use Rattle.protocol.specs.Settings.{in_range, hazard_cells, hazard_cell, lock_cell};
 
 use crate::layout::Layout;
 use protocol::settings::Settings;
 
-fn within(low: usize, high: usize, number: usize) -> bool
-    ensures { result ≡ Rattle.protocol.specs.Settings.within low high number }
+fn in_range(settings: &Settings) -> bool
+    ensures { result ≡ in_range settings.now }
 {
-    low <= number && number <= high
+    (2..=8).contains(&settings.threads)
+        && (1..=4).contains(&settings.hazards)
+        && (1..=8).contains(&settings.roots)
+        && (1..=64).contains(&settings.nodes)
+        && settings.threads * settings.hazards < settings.places
+        && settings.places <= 48
 }
 
 impl Layout {
@@ -18,14 +23,7 @@ impl Layout {
     pub fn new(settings: Settings) -> Option<Layout>
         ensures { settings_of result ≡ (if in_range settings then Some settings else None) }
     {
-        if !within(2, 8, settings.threads)
-            || !within(1, 4, settings.hazards)
-            || !within(1, 8, settings.roots)
-            || !within(1, 64, settings.nodes)
-        {
-            return None;
-        }
-        if settings.places > 48 || settings.places <= settings.threads * settings.hazards {
+        if !in_range(&settings) {
             return None;
         }
         Some(Layout { settings })
@@ -62,15 +60,11 @@ impl Layout {
         self.settings.roots + self.hazard_cells()
     }
 
-    pub(crate) fn flag0_cell(&self) -> usize
-        ensures { result ≡ flag0_cell self.now.settings }
+    // The cell of flag 0, the owner's, or of flag 1.
+    pub(crate) fn flag_cell(&self, flag: usize) -> usize
+        requires { flag < 2 }
+        ensures { result ≡ lock_cell self.now.settings + (flag + 1) }
     {
-        self.settings.roots + (self.hazard_cells() + 1)
-    }
-
-    pub(crate) fn flag1_cell(&self) -> usize
-        ensures { result ≡ flag1_cell self.now.settings }
-    {
-        self.settings.roots + (self.hazard_cells() + 2)
+        self.lock_cell() + (flag + 1)
     }
 }

@@ -58,11 +58,11 @@ impl Thread {
             },
             (Operation::Reclaim, _) => Request::Nothing,
             (Operation::OwnerLock, 1) => Request::Store {
-                cell: layout.flag0_cell(),
+                cell: layout.flag_cell(0),
                 value: 1,
             },
             (Operation::OwnerLock, 3) => Request::Store {
-                cell: layout.flag0_cell(),
+                cell: layout.flag_cell(0),
                 value: self.version.wrapping_mul(2),
             },
             (Operation::OwnerLock, 4) => Request::Exchange {
@@ -71,13 +71,13 @@ impl Thread {
                 new: 1,
             },
             (Operation::OwnerLock, _) => Request::Load {
-                cell: layout.flag1_cell(),
+                cell: layout.flag_cell(1),
             },
             (Operation::OwnerUnlock, 1) => Request::Load {
-                cell: layout.flag0_cell(),
+                cell: layout.flag_cell(0),
             },
             (Operation::OwnerUnlock, 2 | 3) => Request::Store {
-                cell: layout.flag0_cell(),
+                cell: layout.flag_cell(0),
                 value: 0,
             },
             (Operation::OwnerUnlock, _) => Request::Store {
@@ -90,22 +90,22 @@ impl Thread {
                 new: thread as u64 + 1,
             },
             (Operation::OtherLock, 2) => Request::Load {
-                cell: layout.flag1_cell(),
+                cell: layout.flag_cell(1),
             },
             (Operation::OtherLock, 3) => Request::Store {
-                cell: layout.flag1_cell(),
+                cell: layout.flag_cell(1),
                 value: self.version.wrapping_mul(2).wrapping_add(1),
             },
             (Operation::OtherLock, 4) => Request::Fence,
             (Operation::OtherLock, 5 | 6) => Request::Clock,
             (Operation::OtherLock, _) => Request::Load {
-                cell: layout.flag0_cell(),
+                cell: layout.flag_cell(0),
             },
             (Operation::OtherUnlock, 1) => Request::Load {
-                cell: layout.flag1_cell(),
+                cell: layout.flag_cell(1),
             },
             (Operation::OtherUnlock, 2) => Request::Store {
-                cell: layout.flag1_cell(),
+                cell: layout.flag_cell(1),
                 value: self.version.wrapping_add(1).wrapping_mul(2),
             },
             (Operation::OtherUnlock, _) => Request::Store {
