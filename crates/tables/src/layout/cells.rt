@@ -47,7 +47,7 @@ impl Layout {
     pub(crate) fn hazard_at(&self, cell: usize) -> Option<(usize, usize)>
         ensures { result ≡ hazard_at self.now.settings cell }
     {
-        if cell < self.settings.roots || cell >= self.lock_cell() {
+        if !(self.settings.roots..self.lock_cell()).contains(&cell) {
             return None;
         }
         let place = cell - self.settings.roots;

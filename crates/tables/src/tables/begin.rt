@@ -46,7 +46,7 @@ fn fits(settings: &Settings, operation: Operation) -> bool
         Operation::Copy { from, to } => from < to && to < settings.hazards,
         Operation::Release { hazard } => hazard < settings.hazards,
         Operation::Publish { root, node } => {
-            root < settings.roots && 1 <= node && node <= settings.nodes
+            root < settings.roots && (1..=settings.nodes).contains(&node)
         }
         Operation::Remove { root } => root < settings.roots,
         _ => true,

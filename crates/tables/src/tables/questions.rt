@@ -52,7 +52,7 @@ impl Tables {
     pub fn node(&self, node: usize) -> Option<NodeState>
         ensures { result ≡ node_shown (Some (tables_of self.now)) node }
     {
-        if node < 1 || node > self.layout.settings.nodes {
+        if !(1..=self.layout.settings.nodes).contains(&node) {
             return None;
         }
         Some(at_or(&self.nodes, node, NodeState::Free))
