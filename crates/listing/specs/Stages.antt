@@ -1,18 +1,12 @@
--- The session that a listing stands for. Assumes nothing.
-use Rattle.held.specs.Held.{held}
-use Rattle.immediate.specs.Immediate.{immediate}
-use Rattle.quiescing.specs.Quiescing.{quiescing}
-use Rattle.machine.specs.State.{state}
-use Rattle.listing.specs.declared.listing.Listing.{Listing}
+-- The session that a stage stands for. Assumes nothing.
 use Rattle.listing.specs.declared.listing.Stage.{Stage}
-use Rattle.listing.specs.declared.listing.Stage.TheVariants.{Begun, Held, Immediate, Quiescing}
-use Rattle.listing.specs.Session.{Session, begun, running}
+use Rattle.listing.specs.declared.listing.Stage.TheVariants.{Begun, Failed, Held, Immediate, Quiescing}
+use Rattle.listing.specs.Session.{Session, begun, never, running}
 
-abbrev pub session_at : Stage → Listing → Session
-session_at Begun l = begun
-session_at Held l = running (state held l.held)
-session_at Immediate l = running (state immediate l.immediate)
-session_at Quiescing l = running (state (quiescing held) l.quiescing)
-
-abbrev pub session_of : Listing → Session
-session_of l = session_at l.stage l
+-- where the first line failed, later lines find a machine that is not set up
+abbrev pub session_at : Stage → Session
+session_at Begun = begun
+session_at Failed = running never
+session_at (Held m) = running m
+session_at (Immediate m) = running m
+session_at (Quiescing m) = running m

@@ -5,22 +5,31 @@ use held::Held;
 use immediate::Immediate;
 use machine::machine::Machine;
 use quiescing::Quiescing;
+use std::marker::Model;
 
-// Which machine is in use.
-#[derive(Clone, Copy)]
-pub enum Stage {
+#[derive(Drop)]
+enum Stage {
     // no line has come yet
     Begun,
-    Held,
-    Immediate,
-    Quiescing,
+    // the first line failed: no machine was made, and none will be
+    Failed,
+    Held(Machine<Held>),
+    Immediate(Machine<Immediate>),
+    Quiescing(Machine<Quiescing<Held>>),
 }
 
-// The machines that are not in use only hold their place, since a machine inside an enum could not be changed in place.
 #[derive(Drop)]
 pub struct Listing {
     stage: Stage,
-    held: Machine<Held>,
-    immediate: Machine<Immediate>,
-    quiescing: Machine<Quiescing<Held>>,
+}
+
+// To a contract a listing is its session.
+impl Model for Listing {
+    ghost use Rattle.listing.specs.Session.{Session};
+
+    ghost Value = { Session };
+
+    ghost use Rattle.listing.specs.Stages.{session_at};
+
+    ghost view = { λ l. session_at l.stage };
 }

@@ -1,2 +1,1 @@
-pub mod MachineCalls
-pub mod QuestionFacts
+pub mod SetUp

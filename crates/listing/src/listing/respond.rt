@@ -1,15 +1,12 @@
 // The printed line of each input line.
 ghost use Rattle.std.specs.Prelude.{◌≡◌};
-ghost use Rattle.held.specs.Held.{held};
-ghost use Rattle.immediate.specs.Immediate.{immediate};
-ghost use Rattle.quiescing.specs.Quiescing.{quiescing};
-ghost use Rattle.machine.specs.State.{state};
-ghost use Rattle.memory.specs.Meaning.{fresh};
-ghost use Rattle.lines.specs.Input.{call_in, head_in};
-ghost use Rattle.listing.specs.Made.{HeldBy, ImmediateBy, LayerBy, Opened};
+ghost use Rattle.protocol.specs.Calls.{Performs, begun_over};
+ghost use Rattle.protocol.specs.declared.call.Call.TheVariants.{SetUp};
+ghost use Rattle.lines.specs.Input.{call_in};
 ghost use Rattle.lines.specs.Output.{bytes_of};
-ghost use Rattle.listing.specs.Session.{Prints, Responds, First, begun, never, running, shown, memory_in};
-ghost use Rattle.listing.specs.Stages.{session_of};
+ghost use Rattle.listing.specs.Made.{Opened};
+ghost use Rattle.listing.specs.Session.{Prints, Responds, begun, malformed, memory_in, never, shown};
+ghost use Rattle.listing.specs.Stages.{session_at};
 
 use crate::listing::{Listing, Stage};
 use held::Held;
@@ -19,8 +16,9 @@ use lines::line::Line;
 use lines::parse::{parse_call, parse_head};
 use machine::machine::Machine;
 use memory::memory::Memory;
-use memory::refusal::Refusal;
-use protocol::answer::Answer;
+use memory::refusal::Refusal as MemoryRefusal;
+use protocol::answer::{Answer, Refusal};
+use protocol::settings::Settings;
 use quiescing::Quiescing;
 
 // The number that a malformed line prints.
@@ -32,130 +30,102 @@ fn shown(answer: Answer) -> Line
     Line::print(answer.code(), answer.value())
 }
 
+fn malformed() -> Line
+    ensures { bytes_of result ≡ malformed }
+{
+    Line::print(MALFORMED, 0)
+}
+
 // A later line: the machine is called, unless the line is malformed.
 fn respond<M: Memory>(machine: &mut Machine<M>, line: &[u8]) -> Line
-    ensures { Responds (call_in line.now) (state M.meaning machine.old) (state M.meaning machine.new) (bytes_of result) }
+    ensures { Responds (call_in line.now) machine.old machine.new (bytes_of result) }
 {
     match parse_call(line) {
         Some(call) => shown(machine.call(call)),
-        None => Line::print(MALFORMED, 0),
+        None => malformed(),
     }
 }
 
-fn held(head: &Head) -> Option<Held>
-    ensures { HeldBy head.now result }
+// A later line after a first line that failed: every call finds a machine that is not set up.
+fn refused(line: &[u8]) -> Line
+    ensures { Responds (call_in line.now) never never (bytes_of result) }
 {
-    if head.limit != 0 {
-        return None;
+    match parse_call(line) {
+        Some(_) => shown(Answer::Refused(Refusal::NotSetUp)),
+        None => malformed(),
     }
-    Held::new(head.bound).ok()
 }
 
-fn immediate(head: &Head) -> Option<Immediate>
-    ensures { ImmediateBy head.now result }
+// A machine begun new over the memory and set up, with what set-up answers.
+fn set_up<M: Memory>(memory: M, settings: Settings) -> (Machine<M>, Answer)
+    ensures { Performs (begun_over (M.meaning memory)) result.0 (SetUp settings) result.1 }
 {
-    if head.limit != 0 {
-        return None;
-    }
-    Immediate::new(head.bound).ok()
+    let mut machine = Machine::new(memory);
+    let answer = machine.set_up(settings);
+    (machine, answer)
 }
 
-// A layer with the limit over a held memory with the bound.
-fn layer(head: &Head) -> Option<Quiescing<Held>>
-    ensures { LayerBy head.now result }
+// The machine over the memory that the first line names, with what set-up answers: a held or an immediate memory, which have no
+// limit, or a layer with the limit over a held memory. Refused where the memory cannot be made.
+fn open(head: &Head) -> Result<(Stage, Answer), MemoryRefusal>
+    ensures { Opened head.now (memory_in head.now) result }
 {
-    let below = Held::new(head.bound).ok()?;
-    Quiescing::new(below, head.limit).ok()
+    match (head.memory, head.limit) {
+        (1, 0) => {
+            let (machine, answer) = set_up(Held::new(head.bound)?, head.settings);
+            Ok((Stage::Held(machine), answer))
+        }
+        (2, 0) => {
+            let (machine, answer) = set_up(Immediate::new(head.bound)?, head.settings);
+            Ok((Stage::Immediate(machine), answer))
+        }
+        (3, limit) => {
+            let below = Held::new(head.bound)?;
+            let layer = Quiescing::new(below, limit).map_err(|unmade| unmade.refusal)?;
+            let (machine, answer) = set_up(layer, head.settings);
+            Ok((Stage::Quiescing(machine), answer))
+        }
+        _ => Err(MemoryRefusal::NotMade),
+    }
 }
 
-// A machine that no line can set up.
-fn never() -> Machine<Held>
-    ensures { state held result ≡ never }
+// The first line, and the stage that it leads to.
+fn first(line: &[u8]) -> (Stage, Line)
+    ensures { Prints begun line.now (session_at result.0) (bytes_of result.1) }
 {
-    match Held::new(1) {
-        Ok(memory) => Machine::new(memory),
-        Err(_) => unreachable(),
-    }
-}
-
-fn idle_immediate() -> Machine<Immediate> {
-    match Immediate::new(1) {
-        Ok(memory) => Machine::new(memory),
-        Err(_) => unreachable(),
-    }
-}
-
-fn idle_quiescing() -> Machine<Quiescing<Held>> {
-    let Ok(below) = Held::new(1) else {
-        unreachable()
+    let Some(head) = parse_head(line) else {
+        return (Stage::Failed, malformed());
     };
-    match Quiescing::new(below, 1) {
-        Ok(layer) => Machine::new(layer),
-        Err(_) => unreachable(),
+    match open(&head) {
+        Ok((stage, answer)) => (stage, shown(answer)),
+        Err(refusal) => (Stage::Failed, Line::print(u64::from(refusal.number()), 0)),
     }
 }
 
 impl Listing {
     // No line has come yet.
     pub fn new() -> Listing
-        ensures { session_of result ≡ begun }
+        ensures { result ≡ begun }
     {
         Listing {
             stage: Stage::Begun,
-            held: never(),
-            immediate: idle_immediate(),
-            quiescing: idle_quiescing(),
-        }
-    }
-
-    // Begins a machine new over the memory that the first line names, and sets it up; none where the memory cannot be made.
-    fn open(&mut self, head: &Head) -> Option<Answer>
-        ensures { Opened head.now (memory_in head.now) (session_of self.old) (session_of self.new) result }
-    {
-        match head.memory {
-            1 => {
-                self.held = Machine::new(held(head)?);
-                self.stage = Stage::Held;
-                Some(self.held.set_up(head.settings))
-            }
-            2 => {
-                self.immediate = Machine::new(immediate(head)?);
-                self.stage = Stage::Immediate;
-                Some(self.immediate.set_up(head.settings))
-            }
-            3 => {
-                self.quiescing = Machine::new(layer(head)?);
-                self.stage = Stage::Quiescing;
-                Some(self.quiescing.set_up(head.settings))
-            }
-            _ => None,
-        }
-    }
-
-    // The first line. Where it fails, later calls find a machine that is not set up.
-    fn first(&mut self, line: &[u8]) -> Line
-        ensures { Prints begun line.now (session_of self.new) (bytes_of result) }
-    {
-        self.held = never();
-        self.stage = Stage::Held;
-        let Some(head) = parse_head(line) else {
-            return Line::print(MALFORMED, 0);
-        };
-        match self.open(&head) {
-            Some(answer) => shown(answer),
-            None => Line::print(u64::from(Refusal::NotMade.number()), 0),
         }
     }
 
     // The printed line of an input line, which is given without its newline.
     pub fn line(&mut self, line: &[u8]) -> Line
-        ensures { Prints (session_of self.old) line.now (session_of self.new) (bytes_of result) }
+        ensures { Prints self.old line.now self.new (bytes_of result) }
     {
-        match self.stage {
-            Stage::Begun => self.first(line),
-            Stage::Held => respond(&mut self.held, line),
-            Stage::Immediate => respond(&mut self.immediate, line),
-            Stage::Quiescing => respond(&mut self.quiescing, line),
+        match &mut self.stage {
+            Stage::Begun => {
+                let (stage, printed) = first(line);
+                self.stage = stage;
+                printed
+            }
+            Stage::Failed => refused(line),
+            Stage::Held(machine) => respond(machine, line),
+            Stage::Immediate(machine) => respond(machine, line),
+            Stage::Quiescing(machine) => respond(machine, line),
         }
     }
 }

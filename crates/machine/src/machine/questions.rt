@@ -2,7 +2,6 @@
 // of range. Each promises that the answer is the one that the tables show, and the one that every history which explains the
 // machine's state gives.
 ghost use Rattle.std.specs.Prelude.{◌≡◌, List};
-ghost use Rattle.machine.specs.State.{state};
 ghost use Rattle.protocol.specs.Guarantees.{Explains};
 ghost use Rattle.protocol.specs.History.{Event, settings_in};
 ghost use Rattle.protocol.specs.Plain.{doing_of};
@@ -19,102 +18,75 @@ use protocol::settings::Settings;
 impl<M: Memory> Machine<M> {
     // The thread and the index of a hazard cell. None for another cell.
     pub fn hazard_cell(&self, cell: usize) -> Option<(usize, usize)>
-        ensures tables { result ≡ hazard_of (settings_shown (state M.meaning self.now).tables) cell }
-        ensures history { (h : List Event) → Explains h (state M.meaning self.now) → result ≡ hazard_of (settings_in h) cell }
-        ensures law { HazardLaw (settings_shown (state M.meaning self.now).tables) cell result }
+        ensures tables { result ≡ hazard_of (settings_shown self.now.tables) cell }
+        ensures history { (h : List Event) → Explains h self.now → result ≡ hazard_of (settings_in h) cell }
+        ensures law { HazardLaw (settings_shown self.now.tables) cell result }
     {
-        if !self.is_set_up {
-            return None;
-        }
-        self.tables.hazard_cell(cell)
+        self.tables.as_ref()?.hazard_cell(cell)
     }
 
     // The node on which the guard at the thread's hazard index stands, 0 where none stands. None where there is no such index.
     pub fn guard(&self, thread: usize, index: usize) -> Option<u64>
-        ensures tables { result ≡ guard_shown (state M.meaning self.now).tables thread index }
-        ensures history { (h : List Event) → Explains h (state M.meaning self.now) → result ≡ guard_asked h thread index }
+        ensures tables { result ≡ guard_shown self.now.tables thread index }
+        ensures history { (h : List Event) → Explains h self.now → result ≡ guard_asked h thread index }
     {
-        if !self.is_set_up {
-            return None;
-        }
-        self.tables.guard(thread, index)
+        self.tables.as_ref()?.guard(thread, index)
     }
 
     // Where the node is. None where there is no such node.
     pub fn node(&self, node: usize) -> Option<NodeState>
-        ensures tables { result ≡ node_shown (state M.meaning self.now).tables node }
-        ensures history { (h : List Event) → Explains h (state M.meaning self.now) → result ≡ node_asked (state M.meaning self.now).memory.bound h node }
+        ensures tables { result ≡ node_shown self.now.tables node }
+        ensures history { (h : List Event) → Explains h self.now → result ≡ node_asked self.now.memory.bound h node }
     {
-        if !self.is_set_up {
-            return None;
-        }
-        self.tables.node(node)
+        self.tables.as_ref()?.node(node)
     }
 
     // The thread's retired nodes with their dates, oldest first. None where there is no such thread.
     pub fn retired(&self, thread: usize) -> Option<&[Retired]>
-        ensures tables { option_map (λ x. x.now) result ≡ retired_shown (state M.meaning self.now).tables thread }
-        ensures history { (h : List Event) → Explains h (state M.meaning self.now) → option_map (λ x. x.now) result ≡ retired_asked (state M.meaning self.now).memory.bound h thread }
+        ensures tables { option_map (λ x. x.now) result ≡ retired_shown self.now.tables thread }
+        ensures history { (h : List Event) → Explains h self.now → option_map (λ x. x.now) result ≡ retired_asked self.now.memory.bound h thread }
     {
-        if !self.is_set_up {
-            return None;
-        }
-        self.tables.retired(thread)
+        self.tables.as_ref()?.retired(thread)
     }
 
     // Whether the thread is inside the lock. None where there is no such thread.
     pub fn is_inside(&self, thread: usize) -> Option<bool>
-        ensures tables { result ≡ is_inside_shown (state M.meaning self.now).tables thread }
-        ensures history { (h : List Event) → Explains h (state M.meaning self.now) → result ≡ is_inside_asked h thread }
+        ensures tables { result ≡ is_inside_shown self.now.tables thread }
+        ensures history { (h : List Event) → Explains h self.now → result ≡ is_inside_asked h thread }
     {
-        if !self.is_set_up {
-            return None;
-        }
-        self.tables.is_inside(thread)
+        self.tables.as_ref()?.is_inside(thread)
     }
 
     // The thread that is inside the lock. None where no thread is.
     pub fn inside(&self) -> Option<usize>
-        ensures tables { result ≡ inside_shown (state M.meaning self.now).tables }
-        ensures history { (h : List Event) → Explains h (state M.meaning self.now) → result ≡ inside_asked h }
-        ensures law { (h : List Event) → Explains h (state M.meaning self.now) → NamesInside h result }
+        ensures tables { result ≡ inside_shown self.now.tables }
+        ensures history { (h : List Event) → Explains h self.now → result ≡ inside_asked h }
+        ensures law { (h : List Event) → Explains h self.now → NamesInside h result }
     {
-        if !self.is_set_up {
-            return None;
-        }
-        self.tables.inside()
+        self.tables.as_ref()?.inside()
     }
 
     // The thread's operation with its next step, or nothing. None where there is no such thread.
     pub fn doing(&self, thread: usize) -> Option<Doing>
-        ensures tables { option_map doing_of result ≡ doing_shown (state M.meaning self.now).tables thread }
-        ensures history { (h : List Event) → Explains h (state M.meaning self.now) → option_map doing_of result ≡ doing_asked h thread }
+        ensures tables { option_map doing_of result ≡ doing_shown self.now.tables thread }
+        ensures history { (h : List Event) → Explains h self.now → option_map doing_of result ≡ doing_asked h thread }
     {
-        if !self.is_set_up {
-            return None;
-        }
-        self.tables.doing(thread)
+        self.tables.as_ref()?.doing(thread)
     }
 
     // The settings of the set-up.
     pub fn settings(&self) -> Option<Settings>
-        ensures tables { result ≡ settings_shown (state M.meaning self.now).tables }
-        ensures history { (h : List Event) → Explains h (state M.meaning self.now) → result ≡ settings_in h }
+        ensures tables { result ≡ settings_shown self.now.tables }
+        ensures history { (h : List Event) → Explains h self.now → result ≡ settings_in h }
     {
-        if !self.is_set_up {
-            return None;
-        }
-        Some(self.tables.settings())
+        Some(self.tables.as_ref()?.settings())
     }
 
     // How many calls were accepted so far, set-up not counted.
     pub fn accepted(&self) -> Option<u32>
-        ensures tables { result ≡ accepted_shown (state M.meaning self.now).tables }
-        ensures history { (h : List Event) → Explains h (state M.meaning self.now) → result ≡ accepted_asked h }
+        ensures tables { result ≡ accepted_shown self.now.tables }
+        ensures history { (h : List Event) → Explains h self.now → result ≡ accepted_asked h }
     {
-        if !self.is_set_up {
-            return None;
-        }
-        Some(self.tables.accepted())
+        Some(self.tables.as_ref()?.accepted())
     }
 }

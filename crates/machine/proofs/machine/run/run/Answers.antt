@@ -1,7 +1,6 @@
 use Rattle.std.proofs.Common.{sym, ap, ◌∙◌, arith, rules}
 use Rattle.protocol.specs.Calls.{begun_over}
 use Rattle.protocol.specs.Tables.{State}
-use Rattle.machine.specs.State.{state}
 use Rattle.protocol.proofs.CallsKept.{runs_none, runs_more, runs_all}
 use Rattle.machine.proofs.machine.run.run.Goals as goal
 
@@ -24,4 +23,4 @@ loop-call-init g c =
     let m = g.M.Memory.meaning in
     let made = c.in-Ok.ensures in
     let same = ap (λ (s : State). s.memory) c.new-machine.ensures in
-    (made.len, made.capacity, runs_none (m x.memory) _ (state m x) (g.met.M.Memory.sound x.memory) made.items (c.new-machine.ensures ∙ ap begun_over (sym same)))
+    (made.len, made.capacity, runs_none x.memory _ x (rw same (g.met.M.Memory.sound c.args.memory)) made.items (c.new-machine.ensures ∙ ap begun_over (sym same)))
