@@ -7,6 +7,8 @@ use machine::machine::run::run;
 use memory::memory::Memory;
 use protocol::doing::Doing;
 use protocol::node::NodeState;
+use protocol::operation::Operation;
+use protocol::retired::Retired;
 use std::test::Fail;
 
 #[test]
@@ -45,42 +47,30 @@ fn tells_none_out_of_range(rt: HostRuntime) -> Result<(), Fail> {
 fn tells_cells_and_counts(rt: HostRuntime) -> Result<(), Fail> {
     let mut machine = Machine::new(Held::new(2)?);
     assert_eq!(rt; machine.set_up(SETTINGS).code(), 0);
-    assert!(rt; machine.hazard_cell(1) == Some((0, 0)));
-    assert!(rt; machine.hazard_cell(2) == Some((1, 0)));
+    assert_eq!(rt; machine.hazard_cell(1), Some((0, 0)));
+    assert_eq!(rt; machine.hazard_cell(2), Some((1, 0)));
     assert_eq!(rt; machine.land(0).code(), 18);
     assert_eq!(rt; machine.tick().code(), 0);
-    assert!(rt; machine.accepted() == Some(1));
-    assert_eq!(rt; machine.settings().ok_or("settings")?.places, 3);
+    assert_eq!(rt; machine.accepted(), Some(1));
+    assert_eq!(rt; machine.settings(), Some(SETTINGS));
     Ok(())
 }
 
 #[test]
 fn tells_guards_nodes_and_lists(rt: HostRuntime) -> Result<(), Fail> {
-    let completed = match run(rt.alloc(), Held::new(2)?, &GUARDED_SWEEP) {
-        Ok(completed) => completed,
-        Err(_) => return Err(Fail::new("no room")),
-    };
-    let machine = completed.machine;
-    assert!(rt; machine.guard(1, 0) == Some(1));
-    assert!(rt; machine.guard(0, 0) == Some(0));
-    assert!(rt;
-        match machine.node(1) {
-            Some(NodeState::Retired { thread }) => thread == 0,
-            _ => false,
-        }
+    let machine = run(rt.alloc(), Held::new(2)?, &GUARDED_SWEEP)
+        .map_err(|_| "no room")?
+        .machine;
+    assert_eq!(rt; machine.guard(1, 0), Some(1));
+    assert_eq!(rt; machine.guard(0, 0), Some(0));
+    assert_eq!(rt; machine.node(1), Some(NodeState::Retired { thread: 0 }));
+    assert_eq!(rt; machine.node(2), Some(NodeState::Free));
+    assert_eq!(rt;
+        machine.retired(0),
+        Some([Retired { node: 1, date: 0 }].as_slice())
     );
-    assert!(rt;
-        match machine.node(2) {
-            Some(NodeState::Free) => true,
-            _ => false,
-        }
-    );
-    let list = machine.retired(0).ok_or("list")?;
-    assert_eq!(rt; list.len(), 1);
-    assert_eq!(rt; list[0].node, 1);
-    assert_eq!(rt; list[0].date, 0);
-    assert_eq!(rt; machine.retired(1).ok_or("empty list")?.len(), 0);
-    assert!(rt; machine.accepted() == Some(19));
+    assert_eq!(rt; machine.retired(1), Some([].as_slice()));
+    assert_eq!(rt; machine.accepted(), Some(19));
     Ok(())
 }
 
@@ -90,22 +80,18 @@ fn tells_who_is_inside_and_what_a_thread_does(rt: HostRuntime) -> Result<(), Fai
     assert_eq!(rt; machine.set_up(SETTINGS).code(), 0);
     assert_eq!(rt; machine.begin(0, 7, 0, 0).code(), 0);
     assert_eq!(rt; machine.step(0).value(), 2);
-    assert!(rt;
-        match machine.doing(0) {
-            Some(Doing::Busy { operation: _, step }) => step == 2,
-            _ => false,
-        }
+    assert_eq!(rt;
+        machine.doing(0),
+        Some(Doing::Busy {
+            operation: Operation::OwnerLock,
+            step: 2
+        })
     );
     assert!(rt; machine.inside().is_none());
     assert_eq!(rt; machine.step(0).code(), 2);
-    assert!(rt;
-        match machine.doing(0) {
-            Some(Doing::Nothing) => true,
-            _ => false,
-        }
-    );
-    assert!(rt; machine.is_inside(0) == Some(true));
-    assert!(rt; machine.is_inside(1) == Some(false));
-    assert!(rt; machine.inside() == Some(0));
+    assert_eq!(rt; machine.doing(0), Some(Doing::Nothing));
+    assert_eq!(rt; machine.is_inside(0), Some(true));
+    assert_eq!(rt; machine.is_inside(1), Some(false));
+    assert_eq!(rt; machine.inside(), Some(0));
     Ok(())
 }

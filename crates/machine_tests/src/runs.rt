@@ -65,44 +65,45 @@ pub(crate) const GUARDED_SWEEP: [Call; 21] = [
     STEP_0,
 ];
 
-// The codes and values of the calls over the memory, or none where there is no room for them.
-fn answers_over<M: Memory + Drop>(heap: Global, memory: M) -> Option<[(u64, u64); 21]> {
-    let completed = run(heap, memory, &GUARDED_SWEEP).ok()?;
-    let mut shown = [(0, 0); 21];
-    for (place, answer) in shown.iter_mut().zip(completed.answers.iter()) {
-        *place = (answer.code(), answer.value());
-    }
-    Some(shown)
+// The codes and values of the calls over the memory.
+fn answers_over<M: Memory + Drop>(heap: Global, memory: M) -> Result<Vec<(u64, u64)>, Fail> {
+    let completed = run(heap, memory, &GUARDED_SWEEP).map_err(|_| "no room")?;
+    let shown = completed
+        .answers
+        .iter()
+        .map(|answer| (answer.code(), answer.value()));
+    Ok(shown.collect(heap)?)
 }
 
 #[test]
 fn runs_over_the_held_memory(rt: HostRuntime) -> Result<(), Fail> {
-    let answers = answers_over(rt.alloc(), Held::new(2)?).ok_or("no room")?;
-    assert!(rt;
-        answers
-            == [
-                (0, 0),
-                (0, 0),
-                (2, 1),
-                (0, 0),
-                (1, 2),
-                (1, 3),
-                (2, 1),
-                (0, 0),
-                (1, 2),
-                (1, 3),
-                (2, 1),
-                (0, 0),
-                (0, 0),
-                (17, 0),
-                (0, 0),
-                (0, 0),
-                (0, 0),
-                (1, 2),
-                (1, 2),
-                (1, 3),
-                (2, 0),
-            ]
+    let answers = answers_over(rt.alloc(), Held::new(2)?)?;
+    assert_eq!(rt;
+        answers.as_slice(),
+        [
+            (0, 0),
+            (0, 0),
+            (2, 1),
+            (0, 0),
+            (1, 2),
+            (1, 3),
+            (2, 1),
+            (0, 0),
+            (1, 2),
+            (1, 3),
+            (2, 1),
+            (0, 0),
+            (0, 0),
+            (17, 0),
+            (0, 0),
+            (0, 0),
+            (0, 0),
+            (1, 2),
+            (1, 2),
+            (1, 3),
+            (2, 0),
+        ]
+        .as_slice()
     );
     Ok(())
 }
@@ -110,19 +111,16 @@ fn runs_over_the_held_memory(rt: HostRuntime) -> Result<(), Fail> {
 // Nothing waits there, so that the third tick is taken and the landing refused.
 #[test]
 fn runs_over_the_immediate_memory(rt: HostRuntime) -> Result<(), Fail> {
-    let answers = answers_over(rt.alloc(), Immediate::new(2)?).ok_or("no room")?;
-    assert!(rt; answers[13] == (0, 0));
-    assert!(rt; answers[14] == (18, 0));
-    assert!(rt; answers[20] == (2, 0));
+    let answers = answers_over(rt.alloc(), Immediate::new(2)?)?;
+    assert_eq!(rt; answers.get(13), Some(&(0, 0)));
+    assert_eq!(rt; answers.get(14), Some(&(18, 0)));
+    assert_eq!(rt; answers.get(20), Some(&(2, 0)));
     Ok(())
 }
 
 #[test]
 fn runs_no_calls(rt: HostRuntime) -> Result<(), Fail> {
-    let mut completed = match run(rt.alloc(), Held::new(2)?, &[]) {
-        Ok(completed) => completed,
-        Err(_) => return Err(Fail::new("no room")),
-    };
+    let mut completed = run(rt.alloc(), Held::new(2)?, &[]).map_err(|_| "no room")?;
     assert_eq!(rt; completed.answers.len(), 0);
     assert_eq!(rt; completed.machine.tick().code(), 14);
     Ok(())
