@@ -89,19 +89,6 @@ fn open(head: &Head) -> Result<(Stage, Answer), MemoryRefusal>
     }
 }
 
-// The first line, and the stage that it leads to.
-fn first(line: &[u8]) -> (Stage, Line)
-    ensures { Prints begun line.now (session_at result.0) (bytes_of result.1) }
-{
-    let Some(head) = parse_head(line) else {
-        return (Stage::Failed, malformed());
-    };
-    match open(&head) {
-        Ok((stage, answer)) => (stage, shown(answer)),
-        Err(refusal) => (Stage::Failed, Line::print(u64::from(refusal.number()), 0)),
-    }
-}
-
 impl Listing {
     // No line has come yet.
     pub fn new() -> Listing
@@ -112,16 +99,29 @@ impl Listing {
         }
     }
 
+    // The first line.
+    fn first(&mut self, line: &[u8]) -> Line
+        ensures { Prints begun line.now self.new (bytes_of result) }
+    {
+        self.stage = Stage::Failed;
+        let Some(head) = parse_head(line) else {
+            return malformed();
+        };
+        match open(&head) {
+            Ok((stage, answer)) => {
+                self.stage = stage;
+                shown(answer)
+            }
+            Err(refusal) => Line::print(u64::from(refusal.number()), 0),
+        }
+    }
+
     // The printed line of an input line, which is given without its newline.
     pub fn line(&mut self, line: &[u8]) -> Line
         ensures { Prints self.old line.now self.new (bytes_of result) }
     {
         match &mut self.stage {
-            Stage::Begun => {
-                let (stage, printed) = first(line);
-                self.stage = stage;
-                printed
-            }
+            Stage::Begun => self.first(line),
             Stage::Failed => refused(line),
             Stage::Held(machine) => respond(machine, line),
             Stage::Immediate(machine) => respond(machine, line),

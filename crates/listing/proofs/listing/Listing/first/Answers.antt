@@ -7,7 +7,7 @@ use Rattle.listing.specs.declared.listing.Stage.{Stage}
 use Rattle.listing.specs.Made.{Opened}
 use Rattle.listing.specs.Session.{Opens, memory_in, running, shown}
 use Rattle.listing.specs.Stages.{session_at}
-use Rattle.listing.proofs.listing.respond.first.Goals as goal
+use Rattle.listing.proofs.listing.Listing.first.Goals as goal
 
 opens : (h : Head) (m : Option Meaning) (p : Stage × Answer) (bs : List ℕ) → Opened h m (Ok p) → bs ≡ shown p.1 → (x : State) × (session_at p.0 ≡ running x) × Opens h m x bs
 opens h None p bs w e = absurd w
