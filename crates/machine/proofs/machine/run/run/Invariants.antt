@@ -5,4 +5,4 @@ use Rattle.machine.proofs.machine.run.run.Given as goal
 abbrev pub invariant-loop-call : goal.invariant-loop-call
 invariant-loop-call g l =
     (vec_len l.answers ≡ l.call-index) × (length l.calls ≤ vec_capacity l.answers)
-    × Runs l.initial.machine.memory (take l.call-index l.calls) (vec_items l.answers) l.machine
+    × Runs (g.M.Memory.meaning l.fn.memory) (take l.call-index l.calls) (vec_items l.answers) l.machine
