@@ -1,111 +1,83 @@
 -- A line, cut at its first blank, and its fields.
-use Rattle.std.proofs.Common.{◌≡◌, ℕ, zero, suc, ◌+◌, ◌<◌, Bool, true, false, cond, eqb, ltb, leb, List, [], ◌∷◌, map, length, get_or, take, drop, Some, None, Option, sym, refl, ap, ◌∙◌, add-one, arith}
+use Rattle.std.proofs.Common.{◌≡◌, ℕ, suc, ◌+◌, ◌-◌, ◌<◌, ◌≤◌, Bool, true, false, cond, eqb, leb, List, [], ◌∷◌, ◌++◌, map, length, take, drop, set, Some, None, Option, sym, refl, ap, ◌∙◌, append_assoc, append-nil, nat_lt, arith}
 use lib.Dec.{eqb-suc-suc}
-use Rattle.std.proofs.lemmas.Bool.{eq-eqb, ne_eqb, leb-true, and_parts, and_left, and_right, cond-false}
+use Rattle.std.specs.List.{position, position_or_len, All}
+use Rattle.std.specs.Char.{is_ascii_digit}
 use Rattle.std.specs.Option.{option_map}
-use Rattle.lines.specs.Text.{digit, digits, number_in, on_first, fields, all_some, numbers, cut_in, first_in, first_of}
+use Rattle.std.specs.Str.{all_ascii_digits}
+use Rattle.std.proofs.lemmas.Bool.{ne_eqb, and_parts, leb-true}
+use Rattle.std.proofs.lemmas.List.Elements.{All-nil, All-cons}
+use Rattle.std.proofs.lemmas.List.Sums.{fails_before_first}
+use Rattle.std.proofs.lemmas.Bool.Decides.{nat_tests}
+use Rattle.std.proofs.lemmas.Grind.{common_steps}
+use Rattle.std.proofs.lemmas.List.Splits.{slice_split_first, slice_split_none, slice_split_at, length-slice_split}
+use Rattle.lines.specs.Text.{number_in, fields, all_some}
 
--- no blank stands in front of byte i
-abbrev pub NoBlank : List ℕ → ℕ → Type 0
-NoBlank bs i = (k : ℕ) → k < i → get_or bs k 0 ≡ 32 → ⊥
+-- what ends a field
+abbrev pub blank : ℕ → Bool
+blank c = eqb c 32
 
-after_first : (c : ℕ) (cs : List ℕ) (i : ℕ) → NoBlank (c ∷ cs) (suc i) → NoBlank cs i
-after_first c cs i h k lt e = h (suc k) (omega arith) e
+pub cut_at : (bs : List ℕ) (i : ℕ) → position blank bs ≡ Some i → fields bs ≡ take i bs ∷ fields (drop (i + 1) bs)
+cut_at bs i e = grind (arith, common_steps, slice_split_first blank bs 0)
 
--- the first blank is at i
-pub cut_at : (bs : List ℕ) (i : ℕ) → i < length bs → NoBlank bs i → get_or bs i 0 ≡ 32 → Some (take i bs, drop (i + 1) bs) ≡ cut_in bs
-cut_at [] i lt h e = absurd (omega arith)
-cut_at (c ∷ cs) zero lt h e = rw (eq-eqb c 32 e)
-cut_at (c ∷ cs) (suc i) lt h e =
-    rw (add-one (suc i), ne_eqb c 32 (h 0 (omega arith)), ← cut_at cs i (omega arith) (after_first c cs i h) e, add-one i)
-
-pub cut_none : (bs : List ℕ) → NoBlank bs (length bs) → cut_in bs ≡ None
-cut_none [] h = refl
-cut_none (c ∷ cs) h = rw (ne_eqb c 32 (h 0 (omega arith)), cut_none cs (after_first c cs (length cs) h))
-
-abbrev fields_by : List ℕ → Option (List ℕ × List ℕ) → List (List ℕ)
-fields_by bs None = bs ∷ []
-fields_by bs (Some p) = p.0 ∷ fields p.1
-
--- the first field ends at the first blank
-fields_cut : (bs : List ℕ) → fields bs ≡ fields_by bs (cut_in bs)
-fields_cut [] = refl
-fields_cut (c ∷ cs) = by (eqb c 32) (cut_in cs) (fields_cut cs)
+pub cut_none : (bs : List ℕ) → position blank bs ≡ None → fields bs ≡ bs ∷ []
+cut_none bs e =
+    let all : length bs ≤ position_or_len blank bs = none_before bs (nat_lt (position_or_len blank bs) (length bs)) refl e in
+    slice_split_none blank bs (λ k d lt. fails_before_first blank bs k d (omega arith))
   where
-    by : (b : Bool) (o : Option (List ℕ × List ℕ)) → fields cs ≡ fields_by cs o
-        → cond b ([] ∷ fields cs) (on_first c (fields cs)) ≡ fields_by (c ∷ cs) (cond b (Some ([], cs)) (option_map (λ p. (c ∷ p.0, p.1)) o))
-    by true o e = refl
-    by false None e = rw e
-    by false (Some p) e = rw e
+    none_before : (bs : List ℕ) (b : Bool) → nat_lt (position_or_len blank bs) (length bs) ≡ b → position blank bs ≡ None → length bs ≤ position_or_len blank bs
+    none_before bs b e none = grind (arith, nat_tests)
 
-some_field : (bs : List ℕ) → 0 < length (fields bs)
-some_field bs = rw (fields_cut bs) (by (cut_in bs))
+-- so many numbers, one in each field
+abbrev pub numbers_of : ℕ → ℕ → List (List ℕ) → Option (List ℕ)
+numbers_of limit count fs = cond (eqb (length fs) count) (all_some (map (number_in limit) fs)) None
+
+-- the numbers found so far, with those in the fields that are left
+abbrev pub numbers_with : ℕ → ℕ → List ℕ → List (List ℕ) → Option (List ℕ)
+numbers_with limit count found fs = option_map (λ ns. found ++ ns) (numbers_of limit count fs)
+
+pub no_field : (limit count : ℕ) (found : List ℕ) → 0 < count → numbers_with limit count found [] ≡ None
+no_field limit count found h = rw (ne_eqb 0 count (λ e. omega arith))
+
+pub no_number : (limit count : ℕ) (found f : List ℕ) (fs : List (List ℕ)) → None ≡ number_in limit f → numbers_with limit count found (f ∷ fs) ≡ None
+no_number limit count found f fs e = rw (sym e) (by (eqb (suc (length fs)) count))
   where
-    by : (o : Option (List ℕ × List ℕ)) → 0 < length (fields_by bs o)
-    by None = omega arith
-    by (Some p) = omega arith
+    by : (b : Bool) → option_map (λ ns. found ++ ns) (cond b (all_some (None ∷ map (number_in limit) fs)) None) ≡ None
+    by true = refl
+    by false = refl
+
+pub next_number : (limit count : ℕ) (found f : List ℕ) (fs : List (List ℕ)) (n : ℕ) → Some n ≡ number_in limit f
+    → numbers_with limit (suc count) found (f ∷ fs) ≡ numbers_with limit count (found ++ n ∷ []) fs
+next_number limit count found f fs n e = rw (sym e, eqb-suc-suc (length fs) count) (by (eqb (length fs) count) (all_some (map (number_in limit) fs)))
+  where
+    by : (b : Bool) (ms : Option (List ℕ))
+        → option_map (λ ns. found ++ ns) (cond b (option_map (λ ns. n ∷ ns) ms) None) ≡ option_map (λ ns. (found ++ n ∷ []) ++ ns) (cond b ms None)
+    by true None = refl
+    by true (Some ns) = rw (append_assoc found (n ∷ []) ns)
+    by false ms = refl
+
+-- the same, where the number is put into place i of an array
+pub number_put : (limit count i : ℕ) (found f : List ℕ) (fs : List (List ℕ)) (n : ℕ) → i < count → length found ≡ count → Some n ≡ number_in limit f
+    → numbers_with limit (count - i) (take i found) (f ∷ fs) ≡ numbers_with limit (count - (i + 1)) (take (i + 1) (set found i n)) fs
+number_put limit count i found f fs n lt len e =
+    let one : count - i ≡ suc (count - (i + 1)) = omega arith in
+    let put : take (i + 1) (set found i n) ≡ take i found ++ n ∷ [] = grind (arith, common_steps) in
+    rw (one, put) (next_number limit (count - (i + 1)) (take i found) f fs n e)
+
+pub no_field_left : (limit : ℕ) (found : List ℕ) → numbers_with limit 0 found [] ≡ Some found
+no_field_left limit found = rw (append-nil found)
+
+-- every line has a field
+pub some_field_left : (limit : ℕ) (found bs : List ℕ) → numbers_with limit 0 found (fields bs) ≡ None
+some_field_left limit found bs = rw (ne_eqb (length (fields bs)) 0 (λ e. omega (arith, length-slice_split blank bs)))
 
 -- digits have no blank
-digits_uncut : (bs : List ℕ) → digits bs ≡ true → cut_in bs ≡ None
-digits_uncut [] e = refl
-digits_uncut (c ∷ cs) e =
-    let both = and_parts (digit c) (digits cs) e in
+no_blank : (bs : List ℕ) → all_ascii_digits bs ≡ true → All (λ c. blank c ≡ false) bs
+no_blank [] e = All-nil (λ c. blank c ≡ false)
+no_blank (c ∷ cs) e =
+    let both = and_parts (is_ascii_digit c) (all_ascii_digits cs) e in
     let low = leb-true 48 c (and_parts (leb 48 c) (leb c 57) both.0).0 in
-    rw (ne_eqb c 32 (λ is. omega arith), digits_uncut cs both.1)
+    All-cons (λ c. blank c ≡ false) c cs (ne_eqb c 32 (λ is. omega arith)) (no_blank cs both.1)
 
-cut_undigits : (bs : List ℕ) (p : List ℕ × List ℕ) → cut_in bs ≡ Some p → digits bs ≡ false
-cut_undigits bs p e = by (digits bs) refl
-  where
-    by : (b : Bool) → digits bs ≡ b → b ≡ false
-    by true is = let none = digits_uncut bs is in let z : ◌≡◌ {A = ℕ} 0 1 = cc in absurd (omega arith)
-    by false is = refl
-
--- one number has no blank
-pub numbers_one : (limit : ℕ) (bs : List ℕ) → numbers limit 1 bs ≡ option_map (λ n. n ∷ []) (number_in limit bs)
-numbers_one limit bs = rw (fields_cut bs) (by (cut_in bs) refl)
-  where
-    alone : (m : Option ℕ) → all_some (m ∷ []) ≡ option_map (λ n. n ∷ []) m
-    alone None = refl
-    alone (Some n) = refl
-
-    by : (o : Option (List ℕ × List ℕ)) → cut_in bs ≡ o
-        → cond (eqb (length (fields_by bs o)) 1) (all_some (map (number_in limit) (fields_by bs o))) None ≡ option_map (λ n. n ∷ []) (number_in limit bs)
-    by None e = alone (number_in limit bs)
-    by (Some p) e =
-        let more = some_field p.1 in
-        let none : number_in limit bs ≡ None = cond-false _ _ _ (and_right (ltb 0 (length bs)) _ (and_left (digits bs) _ (cut_undigits bs p e))) in
-        rw (ne_eqb (suc (length (fields p.1))) 1 (λ is. omega arith), none)
-
-abbrev pub numbers_by : ℕ → ℕ → Option (ℕ × List ℕ) → Option (List ℕ)
-numbers_by limit count None = None
-numbers_by limit count (Some p) = option_map (λ ns. p.0 ∷ ns) (numbers limit count p.1)
-
--- several numbers are the first and those after its blank
-pub numbers_more : (limit k : ℕ) (bs : List ℕ) → numbers limit (suc (suc k)) bs ≡ numbers_by limit (suc k) (first_in limit bs)
-numbers_more limit k bs = rw (fields_cut bs) (by (cut_in bs))
-  where
-    split : (p : List ℕ × List ℕ) (m : Option ℕ) (t : Bool) → eqb (length (fields p.1)) (suc k) ≡ t
-        → cond t (all_some (m ∷ map (number_in limit) (fields p.1))) None ≡ numbers_by limit (suc k) (option_map (λ n. (n, p.1)) m)
-    split p None true e = refl
-    split p None false e = refl
-    split p (Some n) true e = rw e
-    split p (Some n) false e = rw e
-
-    by : (o : Option (List ℕ × List ℕ))
-        → cond (eqb (length (fields_by bs o)) (suc (suc k))) (all_some (map (number_in limit) (fields_by bs o))) None ≡ numbers_by limit (suc k) (first_of limit o)
-    by None = rw (ne_eqb 1 (suc (suc k)) (λ is. omega arith))
-    by (Some p) = rw (eqb-suc-suc (length (fields p.1)) (suc k)) (split p (number_in limit p.0) _ refl)
-
--- the steps of reading several numbers: one of them, none, the last, and no last
-pub numbers_go : (limit k : ℕ) (bs : List ℕ) (n : ℕ) (rest : List ℕ) → Some (n, rest) ≡ first_in limit bs
-    → numbers limit (suc (suc k)) bs ≡ option_map (λ ns. n ∷ ns) (numbers limit (suc k) rest)
-numbers_go limit k bs n rest e = numbers_more limit k bs ∙ ap (numbers_by limit (suc k)) (sym e)
-
-pub numbers_stop : (limit k : ℕ) (bs : List ℕ) → None ≡ first_in limit bs → numbers limit (suc (suc k)) bs ≡ None
-numbers_stop limit k bs e = numbers_more limit k bs ∙ ap (numbers_by limit (suc k)) (sym e)
-
-pub numbers_last : (limit : ℕ) (bs : List ℕ) (n : ℕ) → Some n ≡ number_in limit bs → numbers limit 1 bs ≡ Some (n ∷ [])
-numbers_last limit bs n e = numbers_one limit bs ∙ ap (option_map (λ n. n ∷ [])) (sym e)
-
-pub numbers_no_last : (limit : ℕ) (bs : List ℕ) → None ≡ number_in limit bs → numbers limit 1 bs ≡ None
-numbers_no_last limit bs e = numbers_one limit bs ∙ ap (option_map (λ n. n ∷ [])) (sym e)
+pub two_fields : (xs ys : List ℕ) → all_ascii_digits xs ≡ true → all_ascii_digits ys ≡ true → fields (xs ++ 32 ∷ ys) ≡ xs ∷ ys ∷ []
+two_fields xs ys h k = slice_split_at blank xs 32 ys (no_blank xs h) refl ∙ ap (λ fs. xs ∷ fs) (slice_split_none blank ys (no_blank ys k))

@@ -1,15 +1,17 @@
 -- What is printed is read back.
-use Rattle.std.proofs.Common.{◌≡◌, ℕ, ◌+◌, ◌-◌, ◌*◌, ◌/◌, ◌%◌, ◌<◌, ◌≤◌, true, leb, List, [], ◌∷◌, ◌++◌, map, length, Some, sym, refl, ◌∙◌, inl, inr, arith}
+use Rattle.std.proofs.Common.{◌≡◌, ℕ, ◌+◌, ◌-◌, ◌*◌, ◌/◌, ◌%◌, ◌<◌, ◌≤◌, true, leb, List, [], ◌∷◌, map, length, Some, refl, ◌∙◌, inl, inr, arith}
+use Rattle.std.specs.Char.{is_ascii_digit}
+use Rattle.std.specs.Str.{all_ascii_digits}
 use Rattle.std.specs.Int.Digits.{digits_of, AllBelowBase, number_from_digits_after}
 use Rattle.std.proofs.lemmas.Int.Digits.{first_digits_of, length-digits_of_step, number_digits_of, all_below_base_digits_of}
 use Rattle.std.proofs.lemmas.List.{get_or-map, length_push}
-use Rattle.std.proofs.lemmas.Bool.{and_from, and_parts, leb-true, le-leb, lt-ltb, ne_eqb, cases_eq}
+use Rattle.std.proofs.lemmas.Bool.{and_from, le-leb, lt-ltb, ne_eqb, cases_eq}
 use Rattle.lines.specs.Laws.{PrintedNumbersReadBack, NoZeroInFront}
 use Rattle.lines.specs.Output.{decimal}
-use Rattle.lines.specs.Text.{digit, digits, value_of, number_in, cut_in, first_in}
-use Rattle.lines.proofs.Cuts.{numbers_go, numbers_last}
+use Rattle.lines.specs.Text.{value_of, number_in}
+use Rattle.lines.proofs.Cuts.{two_fields}
 use Rattle.lines.proofs.Decimals.{figures, figures_last, positive}
-use Rattle.lines.proofs.Numbers.{value_after, value_more, digit_within}
+use Rattle.lines.proofs.Numbers.{value_after, value_more}
 
 value_bytes : (v : ℕ) (ds : List ℕ) → value_after v (map (λ d. 48 + d) ds) ≡ number_from_digits_after 10 v ds
 value_bytes v [] = omega arith
@@ -17,14 +19,16 @@ value_bytes v (d ∷ ds) =
     let same : 48 + d - 48 ≡ d = omega arith in
     value_more v (48 + d) (map (λ d. 48 + d) ds) ∙ rw same (value_bytes (v * 10 + d) ds)
 
-digits_bytes : (ds : List ℕ) → AllBelowBase 10 ds → digits (map (λ d. 48 + d) ds) ≡ true
+digits_bytes : (ds : List ℕ) → AllBelowBase 10 ds → all_ascii_digits (map (λ d. 48 + d) ds) ≡ true
 digits_bytes [] u = refl
-digits_bytes (d ∷ ds) u = let small = u.0 in and_from (digit (48 + d)) _ (digit_within (48 + d) (omega arith) (omega arith)) (digits_bytes ds u.1)
+digits_bytes (d ∷ ds) u =
+    let small = u.0 in
+    and_from (is_ascii_digit (48 + d)) _ (and_from (leb 48 (48 + d)) _ (le-leb 48 (48 + d) (omega arith)) (le-leb (48 + d) 57 (omega arith))) (digits_bytes ds u.1)
 
 -- bs are digits that write n
 record Spells (n : ℕ) (bs : List ℕ) : Type 0 where
   some : 0 < length bs
-  all : digits bs ≡ true
+  all : all_ascii_digits bs ≡ true
   value : value_of bs ≡ n
 
 figures_spell : (n : ℕ) → 0 < n → Spells n (figures n)
@@ -48,18 +52,9 @@ number_back limit n h =
     let s = decimal_spells n in
     rw (lt-ltb 0 (length (decimal n)) s.some, s.all, s.value, le-leb n limit h)
 
-cut_after : (xs ys : List ℕ) → digits xs ≡ true → cut_in (xs ++ 32 ∷ ys) ≡ Some (xs, ys)
-cut_after [] ys e = refl
-cut_after (c ∷ cs) ys e =
-    let both = and_parts (digit c) (digits cs) e in
-    let low = leb-true 48 c (and_parts (leb 48 c) (leb c 57) both.0).0 in
-    rw (ne_eqb c 32 (λ is. omega arith), cut_after cs ys both.1)
-
 pub read_back : PrintedNumbersReadBack
 read_back limit code value h k =
-    let cut = cut_after (decimal code) (decimal value) (decimal_spells code).all in
-    let first : Some (code, decimal value) ≡ first_in limit (decimal code ++ 32 ∷ decimal value) = rw (cut, number_back limit code h) in
-    rw (numbers_go limit 0 (decimal code ++ 32 ∷ decimal value) code (decimal value) first, numbers_last limit (decimal value) value (sym (number_back limit value k)))
+    rw (two_fields (decimal code) (decimal value) (decimal_spells code).all (decimal_spells value).all, number_back limit code h, number_back limit value k)
 
 pub no_zero : NoZeroInFront
 no_zero n h =

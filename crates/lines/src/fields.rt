@@ -1,10 +1,10 @@
 // Numbers in a line, with blanks between them.
-ghost use Rattle.std.specs.Prelude.{◌≡◌};
+ghost use Rattle.std.specs.Prelude.{◌≡◌, ◌∷◌};
 ghost use Rattle.std.specs.Option.{option_map};
-ghost use Rattle.lines.specs.Text.{number_in, cut_in, first_in};
+ghost use Rattle.lines.specs.Text.{number_in, numbers, fields, fields_after};
 
 // The number that the bytes write, if they are digits and it is at most `limit`.
-pub(crate) fn number(limit: u16, bytes: &[u8]) -> Option<u16>
+fn number(limit: u16, bytes: &[u8]) -> Option<u16>
     ensures { result ≡ number_in limit bytes.now }
 {
     if bytes.is_empty() {
@@ -12,35 +12,41 @@ pub(crate) fn number(limit: u16, bytes: &[u8]) -> Option<u16>
     }
     let mut value: u32 = 0;
     for byte in bytes {
-        if *byte < b'0' || *byte > b'9' {
+        if !byte.is_ascii_digit() {
             return None;
         }
-        value = value * 10 + (*byte - b'0') as u32;
+        value = value * 10 + u32::from(*byte - b'0');
         // further digits would only make it larger
-        if value > limit as u32 {
+        if value > u32::from(limit) {
             return None;
         }
     }
     Some(value as u16)
 }
 
-// What stands before the first blank of the line, and what stands after it.
-fn cut(line: &[u8]) -> Option<(&[u8], &[u8])>
-    ensures { option_map (λ p. (p.0.now, p.1.now)) result ≡ cut_in line.now }
+// The line, cut at its first blank: its first field, and what stands after the blank, if there is one.
+fn cut(line: &[u8]) -> (&[u8], Option<&[u8]>)
+    ensures { fields line.now ≡ result.0.now ∷ fields_after (option_map (λ after. after.now) result.1) }
 {
-    for i in 0..line.len() {
-        if line[i] == b' ' {
-            return Some((&line[0..i], &line[i + 1..]));
-        }
+    match line.iter().position(|byte| *byte == b' ') {
+        Some(blank) => (&line[..blank], Some(&line[blank + 1..])),
+        None => (line, None),
     }
-    None
 }
 
-// The number before the first blank of the line, and what stands after that blank.
-pub(crate) fn first_number(limit: u16, line: &[u8]) -> Option<(u16, &[u8])>
-    ensures { option_map (λ p. (p.0, p.1.now)) result ≡ first_in limit line.now }
+// Exactly so many numbers, each at most `limit`, with single blanks between them.
+pub(crate) fn numbers<const N: usize>(limit: u16, line: &[u8]) -> Option<[u16; N]>
+    ensures { result ≡ numbers limit N line.now }
 {
-    let (field, rest) = cut(line)?;
-    let first = number(limit, field)?;
-    Some((first, rest))
+    let mut found = [0; N];
+    let mut left = Some(line);
+    for place in &mut found {
+        let (field, after) = cut(left?);
+        *place = number(limit, field)?;
+        left = after;
+    }
+    match left {
+        None => Some(found),
+        Some(_) => None,
+    }
 }

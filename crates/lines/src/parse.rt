@@ -4,7 +4,7 @@ ghost use Rattle.std.specs.Option.{option_map};
 ghost use Rattle.lines.specs.Input.{begin_of, call_in, head_in};
 ghost use Rattle.lines.specs.Text.{numbers};
 
-use crate::fields::{first_number, number};
+use crate::fields::numbers;
 use crate::head::Head;
 use protocol::call::Call;
 use protocol::settings::Settings;
@@ -19,25 +19,20 @@ const CALL_LIMIT: u16 = 255;
 pub fn parse_head(line: &[u8]) -> Option<Head>
     ensures { result ≡ head_in line.now }
 {
-    let (memory, rest) = first_number(HEAD_LIMIT, line)?;
-    let (limit, rest) = first_number(HEAD_LIMIT, rest)?;
-    let (threads, rest) = first_number(HEAD_LIMIT, rest)?;
-    let (hazards, rest) = first_number(HEAD_LIMIT, rest)?;
-    let (roots, rest) = first_number(HEAD_LIMIT, rest)?;
-    let (nodes, rest) = first_number(HEAD_LIMIT, rest)?;
-    let (places, rest) = first_number(HEAD_LIMIT, rest)?;
-    let bound = number(HEAD_LIMIT, rest)?;
+    let [memory, limit, threads, hazards, roots, nodes, places, bound] = numbers::<8>(
+        HEAD_LIMIT, line,
+    )?;
     Some(Head {
-        memory: memory as usize,
-        limit: limit as u32,
+        memory: usize::from(memory),
+        limit: u32::from(limit),
         settings: Settings {
-            threads: threads as usize,
-            hazards: hazards as usize,
-            roots: roots as usize,
-            nodes: nodes as usize,
-            places: places as usize,
+            threads: usize::from(threads),
+            hazards: usize::from(hazards),
+            roots: usize::from(roots),
+            nodes: usize::from(nodes),
+            places: usize::from(places),
         },
-        bound: bound as u32,
+        bound: u32::from(bound),
     })
 }
 
@@ -45,15 +40,12 @@ pub fn parse_head(line: &[u8]) -> Option<Head>
 fn parse_begin(line: &[u8]) -> Option<Call>
     ensures { result ≡ option_map begin_of (numbers 255 4 line.now) }
 {
-    let (thread, rest) = first_number(CALL_LIMIT, line)?;
-    let (operation, rest) = first_number(CALL_LIMIT, rest)?;
-    let (a, rest) = first_number(CALL_LIMIT, rest)?;
-    let b = number(CALL_LIMIT, rest)?;
+    let [thread, operation, a, b] = numbers::<4>(CALL_LIMIT, line)?;
     Some(Call::Begin {
-        thread: thread as usize,
-        operation: operation as usize,
-        a: a as usize,
-        b: b as usize,
+        thread: usize::from(thread),
+        operation: usize::from(operation),
+        a: usize::from(a),
+        b: usize::from(b),
     })
 }
 
@@ -64,12 +56,16 @@ pub fn parse_call(line: &[u8]) -> Option<Call>
     match line {
         [b't'] => Some(Call::Tick),
         [b'l', b' ', rest @ ..] => {
-            let thread = number(CALL_LIMIT, rest)? as usize;
-            Some(Call::Land { thread })
+            let [thread] = numbers::<1>(CALL_LIMIT, rest)?;
+            Some(Call::Land {
+                thread: usize::from(thread),
+            })
         }
         [b's', b' ', rest @ ..] => {
-            let thread = number(CALL_LIMIT, rest)? as usize;
-            Some(Call::Step { thread })
+            let [thread] = numbers::<1>(CALL_LIMIT, rest)?;
+            Some(Call::Step {
+                thread: usize::from(thread),
+            })
         }
         [b'b', b' ', rest @ ..] => parse_begin(rest),
         _ => None,

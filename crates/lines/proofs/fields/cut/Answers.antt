@@ -1,15 +1,18 @@
-use Rattle.std.proofs.Common.{◌≡◌, ◌-◌, ◌<◌, length, sym, arith}
-use Rattle.std.proofs.lemmas.List.{take_rest}
-use Rattle.lines.proofs.Cuts.{cut_at, cut_none}
+use Rattle.std.proofs.Common.{rules, tests, arith, ◌≡◌, sym, ◌∙◌}
+use Rattle.std.specs.List.{position}
+use Rattle.std.proofs.lemmas.Grind.{common_steps}
+use Rattle.std.proofs.lemmas.Iterator.{YieldsList-from_slice}
+use Rattle.std.proofs.lemmas.Iterator.Search.{position_from_yields_List}
+use Rattle.lines.proofs.Cuts.{blank, cut_at, cut_none}
 use Rattle.lines.proofs.fields.cut.Goals as goal
 
-pub returns-then-line-i-eq32 : goal.returns-then-line-i-eq32
-returns-then-line-i-eq32 c =
-    let bs = c.args.line.now in
-    let i = c.loop-i.i in
-    let lt : i < length bs = omega arith in
-    let all : i - 0 ≡ i = omega arith in
-    rw (take_rest, all) (cut_at bs i lt c.loop-i.invariant c.if-line-i-eq32.true)
+pub returns-in-Some : goal.returns-in-Some
+returns-in-Some c =
+    let at : c.position.result ≡ position blank c.args.line.now = position_from_yields_List blank _ _ c.position.result c.position.ensures.ran (YieldsList-from_slice _ c.iter.ensures.rest) (λ x b q k. search (rules, tests)) in
+    let cut = cut_at c.args.line.now c.in-Some.blank (sym at ∙ c.in-Some.is) in
+    grind (arith, common_steps)
 
-pub returns : goal.returns
-returns c = sym (cut_none c.args.line.now (λ k lt. c.loop-i.invariant k (omega arith)))
+pub returns-in-None : goal.returns-in-None
+returns-in-None c =
+    let at : c.position.result ≡ position blank c.args.line.now = position_from_yields_List blank _ _ c.position.result c.position.ensures.ran (YieldsList-from_slice _ c.iter.ensures.rest) (λ x b q k. search (rules, tests)) in
+    cut_none c.args.line.now (sym at ∙ c.in-None.is)
