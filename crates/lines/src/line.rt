@@ -6,7 +6,8 @@ ghost use Rattle.std.specs.Prelude.{◌≡◌, ◌≤◌, length};
 // The most bytes of a printed line: two numbers of 64 bits, which have at most 20 digits each, a blank and a newline.
 const SIZE: usize = 42;
 
-// The bytes from `start` on are the line, with its newline.
+// The bytes from `start` on are the line, with its newline. An array beside a start, since a line in an `ArrayString` gets no proof where
+// it is passed by value and used again.
 #[derive(Clone, Copy)]
 pub struct Line {
     bytes: [u8; SIZE],
