@@ -1,9 +1,9 @@
 // Good and bad lines of every kind, and printed lines.
-use crate::head::Head;
+use crate::head::{Head, MemoryKind, UnknownMemory};
 use crate::line::Line;
 use crate::parse::{parse_call, parse_head};
 use protocol::call::Call;
-use std::test::Fail;
+use protocol::settings::Settings;
 
 const BAD_HEADS: [&[u8]; 20] = [
     b"",
@@ -71,46 +71,31 @@ const BAD_CALLS: [&[u8]; 40] = [
     b"b 0 4 0 1\r",
 ];
 
-const GOOD_CALLS: [(&[u8], [usize; 5]); 7] = [
-    (b"t", [116, 0, 0, 0, 0]),
-    (b"l 0", [108, 0, 0, 0, 0]),
-    (b"l 255", [108, 255, 0, 0, 0]),
-    (b"s 7", [115, 7, 0, 0, 0]),
-    (b"s 007", [115, 7, 0, 0, 0]),
-    (b"b 1 10 0 64", [98, 1, 10, 0, 64]),
-    (b"b 00 255 0255 1", [98, 0, 255, 255, 1]),
-];
-
-// The byte of a call's letter, and its numbers.
-fn shown(call: Call) -> [usize; 5] {
-    match call {
-        Call::SetUp(_) => [0; 5],
-        Call::Tick => [116, 0, 0, 0, 0],
-        Call::Land { thread } => [108, thread, 0, 0, 0],
+const GOOD_CALLS: [(&[u8], Call); 7] = [
+    (b"t", Call::Tick),
+    (b"l 0", Call::Land { thread: 0 }),
+    (b"l 255", Call::Land { thread: 255 }),
+    (b"s 7", Call::Step { thread: 7 }),
+    (b"s 007", Call::Step { thread: 7 }),
+    (
+        b"b 1 10 0 64",
         Call::Begin {
-            thread,
-            operation,
-            a,
-            b,
-        } => [98, thread, operation, a, b],
-        Call::Step { thread } => [115, thread, 0, 0, 0],
-    }
-}
-
-// All eight numbers of a first line, in their order.
-fn listed(head: Head) -> [usize; 8] {
-    let s = head.settings;
-    [
-        head.memory,
-        head.limit as usize,
-        s.threads,
-        s.hazards,
-        s.roots,
-        s.nodes,
-        s.places,
-        head.bound as usize,
-    ]
-}
+            thread: 1,
+            operation: 10,
+            a: 0,
+            b: 64,
+        },
+    ),
+    (
+        b"b 00 255 0255 1",
+        Call::Begin {
+            thread: 0,
+            operation: 255,
+            a: 255,
+            b: 1,
+        },
+    ),
+];
 
 #[test]
 fn refuses_bad_first_lines(rt: HostRuntime) {
@@ -127,33 +112,61 @@ fn refuses_bad_calls(rt: HostRuntime) {
 }
 
 #[test]
-fn reads_first_lines(rt: HostRuntime) -> Result<(), Fail> {
-    let plain = parse_head(b"1 0 2 1 3 4 5 6").ok_or("plain")?;
-    assert!(rt; listed(plain) == [1, 0, 2, 1, 3, 4, 5, 6]);
-    let large = parse_head(b"65535 65534 0 00 007 0065535 1 10").ok_or("large")?;
-    assert!(rt; listed(large) == [65535, 65534, 0, 0, 7, 65535, 1, 10]);
-    Ok(())
+fn reads_first_lines(rt: HostRuntime) {
+    let plain = Head {
+        memory: 1,
+        limit: 0,
+        settings: Settings {
+            threads: 2,
+            hazards: 1,
+            roots: 3,
+            nodes: 4,
+            places: 5,
+        },
+        bound: 6,
+    };
+    assert!(rt; parse_head(b"1 0 2 1 3 4 5 6") == Some(plain));
+    let large = Head {
+        memory: 65535,
+        limit: 65534,
+        settings: Settings {
+            threads: 0,
+            hazards: 0,
+            roots: 7,
+            nodes: 65535,
+            places: 1,
+        },
+        bound: 10,
+    };
+    assert!(rt; parse_head(b"65535 65534 0 00 007 0065535 1 10") == Some(large));
 }
 
 #[test]
-fn reads_calls(rt: HostRuntime) -> Result<(), Fail> {
-    for (line, expected) in GOOD_CALLS {
-        assert!(rt; shown(parse_call(line).ok_or("call")?) == expected);
+fn names_memories(rt: HostRuntime) {
+    assert!(rt; MemoryKind::try_from(1) == Ok(MemoryKind::Held));
+    assert!(rt; MemoryKind::try_from(2) == Ok(MemoryKind::Immediate));
+    assert!(rt; MemoryKind::try_from(3) == Ok(MemoryKind::Quiescing));
+    assert!(rt; MemoryKind::try_from(0) == Err(UnknownMemory(0)));
+    assert!(rt; MemoryKind::try_from(4) == Err(UnknownMemory(4)));
+}
+
+#[test]
+fn reads_calls(rt: HostRuntime) {
+    for (line, call) in GOOD_CALLS {
+        assert!(rt; parse_call(line) == Some(call));
     }
-    Ok(())
 }
 
 // A thousand zeros do not change a number, and the limit is on its value.
 #[test]
-fn reads_long_numbers(rt: HostRuntime) -> Result<(), Fail> {
+fn reads_long_numbers(rt: HostRuntime) {
     let mut line = [b'0'; 1003];
     line[0] = b's';
     line[1] = b' ';
     line[1002] = b'5';
-    assert!(rt; shown(parse_call(&line).ok_or("zeros")?) == [115, 5, 0, 0, 0]);
+    assert!(rt; parse_call(&line) == Some(Call::Step { thread: 5 }));
     line[2] = b'1';
     assert!(rt; parse_call(&line).is_none());
-    Ok(())
 }
 
 #[test]
