@@ -1,8 +1,8 @@
 -- A number, read digit by digit.
-use Rattle.std.proofs.Common.{◌≡◌, ℕ, suc, ◌+◌, ◌-◌, ◌*◌, ◌^◌, ◌<◌, ◌≤◌, true, false, cond, ◌&&◌, leb, List, [], ◌∷◌, length, get_or, drop, Some, None, Option, ◌∙◌, mul_assoc, mul_comm, add-mul, pow-suc, le-mul_of_pos_right, arith}
+use Rattle.std.proofs.Common.{◌≡◌, ℕ, suc, ◌+◌, ◌-◌, ◌*◌, ◌^◌, ◌<◌, ◌≤◌, true, cond, ◌&&◌, leb, List, ◌∷◌, length, get_or, drop, Some, None, Option, ◌∙◌, mul_assoc, mul_comm, add-mul, pow-suc, le-mul_of_pos_right, arith}
 use native.Mathlib.Nat.{pow-le-pow_right}
 use Rattle.std.proofs.lemmas.List.{at_drop_more}
-use Rattle.std.proofs.lemmas.Bool.{and_right, cond-false, le-leb, lt-leb}
+use Rattle.std.proofs.lemmas.Bool.{and_right, cond-false, lt-leb}
 use Rattle.std.specs.Char.{is_ascii_digit}
 use Rattle.std.specs.Str.{all_ascii_digits}
 use Rattle.lines.specs.Text.{value_of}
@@ -25,9 +25,6 @@ value_more v c cs =
 number_more : (limit v c : ℕ) (cs : List ℕ) → is_ascii_digit c ≡ true → number_after limit v (c ∷ cs) ≡ number_after limit (v * 10 + (c - 48)) cs
 number_more limit v c cs e = rw (e, value_more v c cs)
 
-number_stops : (limit v c : ℕ) (cs : List ℕ) → is_ascii_digit c ≡ false → number_after limit v (c ∷ cs) ≡ None
-number_stops limit v c cs e = rw e
-
 -- what follows does not make it smaller
 pub number_over : (limit v : ℕ) (bs : List ℕ) → limit < v → number_after limit v bs ≡ None
 number_over limit v bs over =
@@ -35,15 +32,7 @@ number_over limit v bs over =
     let large : v ≤ v * 10 ^ length bs = le-mul_of_pos_right v one in
     cond-false _ _ _ (and_right (all_ascii_digits bs) _ (lt-leb (value_after v bs) limit (omega arith)))
 
-pub number_ends : (limit v : ℕ) → v ≤ limit → number_after limit v [] ≡ Some v
-number_ends limit v small =
-    let e : value_after v [] ≡ v = omega arith in
-    rw (e, le-leb v limit small)
-
 -- the same at byte i of a line
 pub reads_at : (limit v : ℕ) (bs : List ℕ) (i : ℕ) → i < length bs → is_ascii_digit (get_or bs i 0) ≡ true
     → number_after limit v (drop i bs) ≡ number_after limit (v * 10 + (get_or bs i 0 - 48)) (drop (i + 1) bs)
 reads_at limit v bs i lt e = at_drop_more (number_after limit v) bs i 0 lt ∙ number_more limit v (get_or bs i 0) (drop (i + 1) bs) e
-
-pub stops_at : (limit v : ℕ) (bs : List ℕ) (i : ℕ) → i < length bs → is_ascii_digit (get_or bs i 0) ≡ false → number_after limit v (drop i bs) ≡ None
-stops_at limit v bs i lt e = at_drop_more (number_after limit v) bs i 0 lt ∙ number_stops limit v (get_or bs i 0) (drop (i + 1) bs) e

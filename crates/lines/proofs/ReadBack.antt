@@ -1,16 +1,16 @@
 -- What is printed is read back.
-use Rattle.std.proofs.Common.{◌≡◌, ℕ, ◌+◌, ◌-◌, ◌*◌, ◌/◌, ◌%◌, ◌<◌, ◌≤◌, true, leb, List, [], ◌∷◌, map, length, Some, refl, ◌∙◌, inl, inr, arith}
+use Rattle.std.proofs.Common.{◌≡◌, ℕ, zero, suc, ◌+◌, ◌-◌, ◌*◌, ◌/◌, ◌%◌, ◌<◌, ◌≤◌, true, leb, List, [], ◌∷◌, map, length, Some, subst, sym, refl, ◌∙◌, arith}
 use Rattle.std.specs.Char.{is_ascii_digit}
 use Rattle.std.specs.Str.{all_ascii_digits}
 use Rattle.std.specs.Int.Digits.{digits_of, AllBelowBase, number_from_digits_after}
 use Rattle.std.proofs.lemmas.Int.Digits.{first_digits_of, length-digits_of_step, number_digits_of, all_below_base_digits_of}
 use Rattle.std.proofs.lemmas.List.{get_or-map, length_push}
-use Rattle.std.proofs.lemmas.Bool.{and_from, le-leb, lt-ltb, ne_eqb, cases_eq}
+use Rattle.std.proofs.lemmas.Bool.{and_from, le-leb, lt-ltb}
 use Rattle.lines.specs.Laws.{PrintedNumbersReadBack, NoZeroInFront}
 use Rattle.lines.specs.Output.{decimal}
 use Rattle.lines.specs.Text.{value_of, number_in}
 use Rattle.lines.proofs.Cuts.{two_fields}
-use Rattle.lines.proofs.Decimals.{figures, figures_last, positive}
+use Rattle.lines.proofs.Decimals.{figures, figures_last, decimal_figures}
 use Rattle.lines.proofs.Numbers.{value_after, value_more}
 
 value_bytes : (v : ℕ) (ds : List ℕ) → value_after v (map (λ d. 48 + d) ds) ≡ number_from_digits_after 10 v ds
@@ -41,11 +41,8 @@ figures_spell n above =
     }
 
 decimal_spells : (n : ℕ) → Spells n (decimal n)
-decimal_spells n =
-    elim (cases_eq n 0) [
-      | inl z ↦ rw z (record { some = omega arith; all = refl; value = refl })
-      | inr ne ↦ rw (ne_eqb n 0 ne) (figures_spell n (positive n ne))
-    ]
+decimal_spells zero = record { some = omega arith; all = refl; value = refl }
+decimal_spells (suc n) = subst (Spells (suc n)) (sym (decimal_figures (suc n) (omega arith))) (figures_spell (suc n) (omega arith))
 
 number_back : (limit n : ℕ) → n ≤ limit → number_in limit (decimal n) ≡ Some n
 number_back limit n h =
@@ -60,4 +57,4 @@ pub no_zero : NoZeroInFront
 no_zero n h =
     let first = first_digits_of 10 n (omega arith) h in
     let some : 0 < length (digits_of 10 n) = omega (arith, length-digits_of_step 10 n (omega arith) h) in
-    rw (ne_eqb n 0 (λ z. omega arith), get_or-map (λ d. 48 + d) (digits_of 10 n) 0 0 0 some) (omega arith)
+    rw (decimal_figures n h, get_or-map (λ d. 48 + d) (digits_of 10 n) 0 0 0 some) (omega arith)

@@ -1,4 +1,4 @@
-use Rattle.std.proofs.Common.{◌≡◌, ℕ, ◌+◌, ◌-◌, ◌^◌, ◌<◌, ◌≤◌, length, arith}
+use Rattle.std.proofs.Common.{◌≡◌, ℕ, ◌+◌, ◌-◌, ◌^◌, ◌<◌, ◌≤◌, length, arith, rules}
 use Rattle.std.proofs.lemmas.List.{drop-set}
 use Rattle.std.proofs.lemmas.Fmt.{length-decimal-le}
 use Rattle.std.proofs.lemmas.Grind.{common_steps}
@@ -11,7 +11,7 @@ short : (n : ℕ) → n < 2 ^ 64 → length (decimal n) ≤ 20
 short n h = length-decimal-le 20 n (omega arith) (omega arith) h
 
 pub write_digits-blank-requires : goal.write_digits-blank-requires
-write_digits-blank-requires c = (omega (arith, short c.args.value (omega arith)), omega arith)
+write_digits-blank-requires c = search (rules, length-decimal-le 20)
 
 pub overflow_sub-blank : goal.overflow_sub-blank
 overflow_sub-blank c = omega (arith, short c.args.value (omega arith))
