@@ -1,14 +1,20 @@
-use Rattle.std.proofs.Common.{◌≡◌, ℕ, ◌+◌, ◌-◌, ◌^◌, ◌<◌, ◌≤◌, length, arith, rules}
+use Rattle.std.proofs.Common.{◌≡◌, ℕ, ◌+◌, ◌-◌, ◌^◌, ◌<◌, ◌≤◌, List, [], ◌∷◌, ◌++◌, length, drop, set, arith, rules}
 use Rattle.std.proofs.lemmas.List.{drop-set}
 use Rattle.std.proofs.lemmas.Fmt.{length-decimal-le}
 use Rattle.std.proofs.lemmas.Grind.{common_steps}
 use Rattle.std.specs.Fmt.{decimal}
+use Rattle.lines.specs.Output.{printed}
 use Rattle.lines.proofs.Decimals.{decimal_printed}
 use Rattle.lines.proofs.line.Line.print.Goals as goal
 
 -- 64 bits have at most 20 digits
 short : (n : ℕ) → n < 2 ^ 64 → length (decimal n) ≤ 20
 short n h = length-decimal-le 20 n (omega arith) (omega arith) h
+
+-- the code, written to end at a blank in front of the value
+line_printed : (out buf : List ℕ) (start blank code value : ℕ) → code < 2 ^ 64 → value < 2 ^ 64 → blank < length buf
+    → drop start out ≡ decimal code ++ drop blank (set buf blank 32) → drop (blank + 1) buf ≡ decimal value ++ 10 ∷ [] → drop start out ≡ printed code value
+line_printed out buf start blank code value h k lt e f = rw (e, drop-set buf blank 32 lt, f, decimal_printed code h, decimal_printed value k)
 
 pub write_digits-blank-requires : goal.write_digits-blank-requires
 write_digits-blank-requires c = search (rules, length-decimal-le 20)
@@ -21,14 +27,7 @@ write_digits-start-requires c = (omega (arith, short c.args.value (omega arith),
 
 pub returns : goal.returns
 returns c =
-    let buf = c.write_digits-blank.new.buf in
     let blank = c.write_digits-blank.result - 1 in
-    let last : blank + 1 ≡ c.write_digits-blank.result = omega (arith, short c.args.value (omega arith)) in
-    rw (
-      c.write_digits-start.ensures.written,
-      drop-set buf blank 32 (omega arith),
-      last,
-      c.write_digits-blank.ensures.written,
-      decimal_printed c.args.code (omega arith),
-      decimal_printed c.args.value (omega arith),
-    )
+    let next : blank + 1 ≡ c.write_digits-blank.result = omega (arith, short c.args.value (omega arith)) in
+    line_printed c.write_digits-start.new.buf c.write_digits-blank.new.buf c.write_digits-start.result blank c.args.code c.args.value (omega arith) (omega arith)
+    (omega arith) c.write_digits-start.ensures.written (rw next c.write_digits-blank.ensures.written)
