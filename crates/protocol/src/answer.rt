@@ -22,6 +22,7 @@ pub enum Refusal {
     WritesWaiting = 26,
 }
 
+// Refusals stand among the answers and not beside them in a `Result`, since every answer has one code and one value, a refusal too.
 #[derive(Clone, Copy, PartialEq, Eq, Debug)]
 pub enum Answer {
     // a set-up, tick, landing or begin was done

@@ -1,4 +1,5 @@
-// What a thread is doing: an operation with its next step, or nothing.
+// What a thread is doing: an operation with its next step, or nothing. An enum of its own, since the question for it answers an
+// `Option`: an `Option` in an `Option` would have two kinds of none.
 use crate::operation::Operation;
 
 #[derive(Clone, Copy, PartialEq, Eq, Debug)]
