@@ -5,7 +5,10 @@ use crate::listing::Listing;
 #[test]
 fn ends_after_8000_calls(rt: HostRuntime) {
     let mut listing = Listing::new();
-    assert_eq!(rt; listing.line(b"2 0 2 1 1 2 3 2").as_slice(), b"0 0\n".as_slice());
+    assert_eq!(rt;
+        listing.line(b"2 0 2 1 1 2 3 2").as_slice(),
+        b"0 0\n".as_slice()
+    );
     for _ in 0..8000 {
         assert_eq!(rt; listing.line(b"l 0").as_slice(), b"18 0\n".as_slice());
         assert_eq!(rt; listing.line(b"x").as_slice(), b"38 0\n".as_slice());
