@@ -24,6 +24,7 @@ use quiescing::Quiescing;
 // The number that a malformed line prints.
 const MALFORMED: u64 = 38;
 
+// The line of an answer. It is no `From`, since both types are of other crates.
 fn shown(answer: Answer) -> Line
     ensures { bytes_of result ≡ shown answer }
 {
