@@ -11,7 +11,7 @@ ghost use Rattle.listing.specs.Stages.{session_at};
 use crate::listing::{Listing, Stage};
 use held::Held;
 use immediate::Immediate;
-use lines::head::Head;
+use lines::head::{Head, MemoryKind};
 use lines::line::Line;
 use lines::parse::{parse_call, parse_head};
 use machine::machine::Machine;
@@ -71,16 +71,16 @@ fn set_up<M: Memory>(memory: M, settings: Settings) -> (Machine<M>, Answer)
 fn open(head: &Head) -> Result<(Stage, Answer), MemoryRefusal>
     ensures { Opened head.now (memory_in head.now) result }
 {
-    match (head.memory, head.limit) {
-        (1, 0) => {
+    match (MemoryKind::try_from(head.memory), head.limit) {
+        (Ok(MemoryKind::Held), 0) => {
             let (machine, answer) = set_up(Held::new(head.bound)?, head.settings);
             Ok((Stage::Held(machine), answer))
         }
-        (2, 0) => {
+        (Ok(MemoryKind::Immediate), 0) => {
             let (machine, answer) = set_up(Immediate::new(head.bound)?, head.settings);
             Ok((Stage::Immediate(machine), answer))
         }
-        (3, limit) => {
+        (Ok(MemoryKind::Quiescing), limit) => {
             let below = Held::new(head.bound)?;
             let layer = Quiescing::new(below, limit).map_err(|unmade| unmade.refusal)?;
             let (machine, answer) = set_up(layer, head.settings);
