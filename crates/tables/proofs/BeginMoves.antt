@@ -1,8 +1,8 @@
 -- The checks of a begin, in their order, and what it leaves. Assumes nothing.
-use Rattle.std.proofs.Common.{◌≡◌, ℕ, ◌+◌, ◌<◌, ◌≤◌, true, false, List, [], ◌∷◌, map, get_or, take, set, Some, None, Option, sym, refl, ap, ◌∙◌}
+use Rattle.std.proofs.Common.{◌≡◌, Ok, length, arith, ℕ, ◌+◌, ◌<◌, ◌≤◌, true, false, List, [], ◌∷◌, map, get_or, take, set, Some, None, Option, sym, refl, ap, ◌∙◌}
 use Rattle.std.proofs.lemmas.Bool.{and_from}
 use Rattle.memory.specs.Checks.{Check, check, first_no}
-use Rattle.memory.specs.Meaning.{Meaning}
+use Rattle.memory.specs.Meaning.{Meaning, fresh}
 use Rattle.protocol.specs.declared.answer.Answer.TheVariants.{Done}
 use Rattle.protocol.specs.declared.answer.Refusal.{Refusal}
 use Rattle.protocol.specs.declared.answer.Refusal.TheVariants.{NoSuchThread, ThreadBusy, BadOperation, GuardOrNode, ListFull, WrongSide}
@@ -16,7 +16,8 @@ use Rattle.protocol.specs.Steps.{told_nothing, moved_to}
 use Rattle.protocol.specs.Tables.{Tables as Table, Thread as Row, doing_at, thread_of}
 use Rattle.protocol.specs.Transition.{checks_of, begin_asks, asked, is_idle, begins as begins_by}
 use Rattle.protocol.proofs.CallsKept.{performed}
-use Rattle.protocol.proofs.Passed.{BeginPassed, begin_passed, begin_room, rest_passed, calls_left as few_left}
+use Rattle.protocol.proofs.Passed.{begin_passed, begin_room, rest_passed, calls_left as few_left}
+use Rattle.tables.specs.Asked.{Admits}
 use Rattle.tables.specs.declared.tables.Tables.{Tables}
 use Rattle.tables.specs.declared.thread.Thread.{Thread}
 use Rattle.tables.specs.Rows.{states_of}
@@ -106,19 +107,30 @@ begin_done x m t n a b d o lt passes is row' ns' e f =
     let table = tables_of x in
     let own = get_or x.threads t d in
     let row : row_of row' ≡ moved_to (start_of o) (thread_of table t) = ap row_of e ∙ begins_row o own ∙ ap (moved_to (start_of o)) (sym (row_at x t d lt)) in
-    rw (rows_set x.layout.settings.threads x.threads t row', row, f)
+    rw (rows_set x.layout.settings.threads x.threads t row' lt, row, f)
     (performed (record { told = told_nothing; trans = begins_by refl is passes (record { memory = refl; tables = refl }) }))
 
--- what it has passed
-pub begin_passed_by : (x : Tables) (m : Meaning) (t n a b : ℕ) (o : Operation) → first_no (checks_of (Begin t n a b) (running x m)) ≡ None → named n a b ≡ Some o → BeginPassed t o (tables_of x)
-begin_passed_by x m t n a b o passes is = begin_passed t o (tables_of x) (rw is at (rest_passed (Some (tables_of x)) (begin_asks t (named n a b)) (tables_of x) refl passes))
+-- what an admitted begin has passed, over any memory
+pub record Granted (x : Tables) (t : ℕ) (o : Operation) : Type 0 where
+  pub few : x.accepted < 8000
+  pub thread : t < x.layout.settings.threads
+  pub low : t < 8
+  pub listed : t < length x.threads
+  -- the row still fits
+  pub fits : (d : Thread) → fitting x.layout.settings (begins o (get_or x.threads t d)) ≡ true
 
-pub begin_room_by : (x : Tables) (m : Meaning) (t n a b : ℕ) (o : Operation) → first_no (checks_of (Begin t n a b) (running x m)) ≡ None → named n a b ≡ Some o → roomy (tables_of x) (thread_of (tables_of x) t) o ≡ true
-begin_room_by x m t n a b o passes is = begin_room t o (tables_of x) (rw is at (rest_passed (Some (tables_of x)) (begin_asks t (named n a b)) (tables_of x) refl passes))
-
-pub begin_few : (x : Tables) (m : Meaning) (t n a b : ℕ) → first_no (checks_of (Begin t n a b) (running x m)) ≡ None → x.accepted < 8000
-begin_few x m t n a b passes = few_left (Some (tables_of x)) (begin_asks t (named n a b)) (tables_of x) refl passes
-
--- the row still fits
-pub begun_fitting : (x : Tables) (t : ℕ) (d : Thread) (o : Operation) → BeginPassed t o (tables_of x) → roomy (tables_of x) (thread_of (tables_of x) t) o ≡ true → fitting x.layout.settings (begins o (get_or x.threads t d)) ≡ true
-begun_fitting x t d o p room = begins_fitting (tables_of x) o (get_or x.threads t d) p.fits (rw (row_at x t d p.thread) at room)
+pub granted : (x : Tables) (t n a b : ℕ) (o : Operation) → ((m : Meaning) → Admits (running x m) t n a b (Ok o)) → Granted x t o
+granted x t n a b o admits =
+    let h = admits (fresh 1 false) in
+    let passed = rw h.1 at (rest_passed (Some (tables_of x)) (begin_asks t (named n a b)) (tables_of x) refl h.0) in
+    let p = begin_passed t o (tables_of x) passed in
+    let room = begin_room t o (tables_of x) passed in
+    let high = x.layout.threads_high in
+    let long = x.eight in
+    record {
+      few = few_left (Some (tables_of x)) (begin_asks t (named n a b)) (tables_of x) refl h.0;
+      thread = p.thread;
+      low = omega (arith, p.thread);
+      listed = omega (arith, p.thread);
+      fits = λ d. begins_fitting (tables_of x) o (get_or x.threads t d) p.fits (rw (row_at x t d p.thread) at room);
+    }

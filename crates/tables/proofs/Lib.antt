@@ -5,6 +5,5 @@ pub mod LayoutFacts
 pub mod MemoryMoves
 pub mod RequestCells
 pub mod RowAnswers
-pub mod RowLemmas
 pub mod StepMoves
 pub mod ThreadTable

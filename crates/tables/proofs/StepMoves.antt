@@ -60,5 +60,5 @@ module _ (x : Tables) (m : Meaning) (t b : ℕ) (own : Thread) (few : x.accepted
     step_done m' d row' ns' a k passes meets out =
         let P : Request → Type 0 = λ r. Meets t r m m' k in
         let Q : Thread → Type 0 = λ r. outcome_of row' ns' a ≡ after (sees b r (states_of x.nodes)) (at r) k in
-        rw (rows_set x.layout.settings.threads x.threads t row')
+        rw (rows_set x.layout.settings.threads x.threads t row' known.0)
         (step_moves (tables_of x) m t (row_of own) row_is m' (row_of row') (states_of ns') a k (step_checks ∙ passes) (subst P asked meets) (rw bound at (subst Q (known.1 d) out)))

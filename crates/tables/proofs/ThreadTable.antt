@@ -2,6 +2,7 @@
 use Rattle.std.proofs.Common.{◌≡◌, ℕ, ◌<◌, true, List, map, length, get_or, take, set, sym, ap, ◌∙◌, inl, inr, arith, length-set}
 use Rattle.std.proofs.lemmas.List.{get_or-take, get_or-map, map-set, get_or-set_same, get_or-set_other}
 use Rattle.std.proofs.lemmas.Bool.{cases_eq}
+use Rattle.std.proofs.Math.Seq.{take-set-lt}
 use Rattle.protocol.specs.declared.settings.Settings.{Settings}
 use Rattle.protocol.specs.Tables.{idle_thread, thread_of}
 use Rattle.tables.specs.declared.tables.Tables.{Tables}
@@ -9,7 +10,6 @@ use Rattle.tables.specs.declared.thread.Thread.{Thread}
 use Rattle.tables.specs.Fitting.{Fitting}
 use Rattle.tables.specs.State.{tables_of}
 use Rattle.tables.specs.Threads.{fitting, row_of}
-use Rattle.tables.proofs.RowLemmas.{take-set_any}
 
 pub row_at : (x : Tables) (t : ℕ) (d : Thread) → t < x.layout.settings.threads → thread_of (tables_of x) t ≡ row_of (get_or x.threads t d)
 row_at x t d lt =
@@ -18,8 +18,8 @@ row_at x t d lt =
     get_or-take x.layout.settings.threads (map row_of x.threads) t (idle_thread 0) lt ∙ get_or-map row_of x.threads t d (idle_thread 0) (omega arith)
 
 -- one thread's row is replaced
-pub rows_set : (n : ℕ) (ts : List Thread) (t : ℕ) (r : Thread) → take n (map row_of (set ts t r)) ≡ set (take n (map row_of ts)) t (row_of r)
-rows_set n ts t r = ap (take n) (map-set row_of ts t r) ∙ take-set_any n (map row_of ts) t (row_of r)
+pub rows_set : (n : ℕ) (ts : List Thread) (t : ℕ) (r : Thread) → t < n → take n (map row_of (set ts t r)) ≡ set (take n (map row_of ts)) t (row_of r)
+rows_set n ts t r lt = ap (take n) (map-set row_of ts t r) ∙ take-set-lt n (map row_of ts) t (row_of r) lt
 
 pub fitting_set : (z : Settings) (ts : List Thread) (t : ℕ) (r : Thread) → Fitting z ts → fitting z r ≡ true → Fitting z (set ts t r)
 fitting_set z ts t r all own d u lt =

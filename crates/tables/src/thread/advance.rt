@@ -48,6 +48,7 @@ impl Thread {
         let Some(operation) = self.operation else {
             return self.end(Answer::Done);
         };
+        let thread = context.thread;
         match (operation, self.step, told) {
             (Operation::Protect { .. }, 1, Told::Value(node)) if node != 0 => {
                 self.node = node;
@@ -84,12 +85,7 @@ impl Thread {
             }
             (Operation::Remove { .. }, 1, _) => self.end(Answer::Empty),
             (Operation::Remove { .. }, 2, Told::Done(true)) => {
-                nodes.set(
-                    self.node as usize,
-                    NodeState::Removed {
-                        thread: context.thread,
-                    },
-                );
+                nodes.set(self.node as usize, NodeState::Removed { thread });
                 self.go_on(3)
             }
             (Operation::Remove { .. }, 2, _) => self.end(Answer::Moved),
@@ -99,12 +95,7 @@ impl Thread {
                     date: told.clock(),
                 };
                 self.retired.append(retired).unwrap();
-                nodes.set(
-                    self.node as usize,
-                    NodeState::Retired {
-                        thread: context.thread,
-                    },
-                );
+                nodes.set(self.node as usize, NodeState::Retired { thread });
                 self.end(Answer::Ended(self.node))
             }
             (Operation::Reclaim, 1, told) => {

@@ -1,11 +1,10 @@
-use Rattle.std.proofs.Common.{◌≡◌, Bool, true, false, cond, not, List, ◌∷◌, set, filter, sym, ap, ◌∙◌, arith}
+use Rattle.std.proofs.Common.{◌≡◌, Bool, true, false, cond, not, List, ◌∷◌, set, filter, sym, refl, ap, ◌∙◌, arith}
 use Rattle.std.proofs.lemmas.List.{drop_more, drop_all}
 use Rattle.protocol.specs.declared.node.NodeState.{NodeState}
 use Rattle.protocol.specs.declared.node.NodeState.TheVariants.{Free}
 use Rattle.protocol.specs.declared.retired.Retired.{Retired}
 use Rattle.protocol.specs.Steps.{keeps, freed, freeing}
 use Rattle.tables.specs.Rows.{loaded_of, states_of}
-use Rattle.tables.proofs.RowLemmas.{kept_next}
 use Rattle.tables.proofs.rows.sweep.Sweep.free.Goals as goal
 use Rattle.tables.proofs.rows.sweep.Sweep.free.Goals.{then-not-keeps, else-not-keeps}
 
@@ -16,12 +15,8 @@ nil = record { node = 0; date = 0 }
 -- one entry on: a node that is not kept is free, and the rest of the list is left
 free_next : (k : Retired → Bool) (b : Bool) (l : List Retired) (e : Retired) (r : List Retired) (ns ns' : List NodeState)
     → l ≡ e ∷ r → k e ≡ b → ns' ≡ cond b ns (set ns e.node Free) → freeing (filter (λ x. not (k x)) r) ns' ≡ freeing (filter (λ x. not (k x)) l) ns
-free_next k true l e r ns ns' is h to =
-    let f : Retired → Bool = λ x. not (k x) in
-    ap (freeing (filter f r)) to ∙ sym (ap (λ (q : List Retired). freeing q ns) (kept_next f false l e r is (ap not h)))
-free_next k false l e r ns ns' is h to =
-    let f : Retired → Bool = λ x. not (k x) in
-    ap (freeing (filter f r)) to ∙ sym (ap (λ (q : List Retired). freeing q ns) (kept_next f true l e r is (ap not h)))
+free_next k true l e r ns ns' is h to = rw (is, h, to) refl
+free_next k false l e r ns ns' is h to = rw (is, h, to) refl
 
 pub loop-entry-preserved : goal.loop-entry-preserved
 loop-entry-preserved c =
