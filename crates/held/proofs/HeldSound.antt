@@ -16,7 +16,7 @@ use Rattle.memory.specs.Meaning.{Meaning, queue, cell, waiting_count, newest, va
 use Rattle.held.specs.Queues.{DatesRise, DatesPast, InCells}
 use Rattle.held.specs.StoreBuffer.{row, Pushes}
 use Rattle.held.specs.SoundLaw.{nil, held_sound}
-use Rattle.held.proofs.Rows.{queue_at, queue_past, with_rows, push_stores, take_lands, same_rows}
+use Rattle.held.proofs.Rows.{queue_at, with_rows, push_stores, take_lands, same_rows}
 use Rattle.memory.proofs.Passing.{store_passes, store_full}
 use Rattle.memory.proofs.Soundness.{stored_sound, landed_sound}
 
@@ -42,9 +42,6 @@ held_queue h t d lt = queue_at h.buffers t d (rw h.threads lt)
 -- and how many, by what the buffer answered
 pub held_count : (h : Held) (t : ℕ) (d : StoreBuffer) (n : ℕ) → t < 8 → n ≡ length (row (slice_index_or h.buffers t d)) → waiting_count (held h) t ≡ n
 held_count h t d n lt e = ap length (held_queue h t d lt) ∙ sym e
-
-pub held_past : (h : Held) (t : ℕ) → 8 ≤ t → queue (held h) t ≡ []
-held_past h t past = queue_past h.buffers t (rw h.threads past)
 
 -- A store and a landing, as the code makes them: the buffer of t is taken out, changed to b and put back.
 pub held_stores : (h : Held) (t c v : ℕ) (d b : StoreBuffer)

@@ -1,9 +1,9 @@
 -- The row of a store buffer, and a table of such rows. Assumes nothing.
-use Rattle.std.specs.Prelude.{◌≡◌, ℕ, ◌<◌, ◌≤◌, Bool, true, false, cond, List, [], ◌∷◌, ◌++◌, map, reverse, length, get_or, set, Some, None, Option, ◌==◌, slice_index_or, slice_set, refl}
+use Rattle.std.specs.Prelude.{◌≡◌, ℕ, ◌<◌, Bool, true, false, cond, List, [], ◌∷◌, ◌++◌, map, reverse, length, get_or, set, Some, None, Option, ◌==◌, slice_index_or, slice_set, refl}
 use Rattle.std.proofs.Common.{sym, ap, ◌∙◌}
 use Rattle.std.specs.Option.{option_map, option_or}
 use Rattle.std.specs.List.{find}
-use Rattle.std.proofs.lemmas.List.{length-map, get_or-map, get_or_past, map-set, set-get_or, reverse-append}
+use Rattle.std.proofs.lemmas.List.{get_or-map, map-set, set-get_or, reverse-append}
 use Rattle.std.proofs.lemmas.List.Folds.{find-append}
 use Rattle.held.specs.declared.store_buffer.StoreBuffer.{StoreBuffer}
 use Rattle.memory.specs.declared.write.Write.{Write}
@@ -32,9 +32,6 @@ newest_first ws c = whole (option_map (λ (w : Write). w.value) (find (λ w. w.c
 -- A table of store buffers, one for each thread: its rows are what waits.
 pub queue_at : (bs : List StoreBuffer) (t : ℕ) (d : StoreBuffer) → t < length bs → slice_index_or (map row bs) t [] ≡ row (slice_index_or bs t d)
 queue_at bs t d lt = get_or-map row bs t d [] lt
-
-pub queue_past : (bs : List StoreBuffer) (t : ℕ) → length bs ≤ t → slice_index_or (map row bs) t [] ≡ []
-queue_past bs t past = get_or_past (map row bs) t [] (rw length-map past)
 
 -- a meaning with other cells and other writes waiting, and one with the rows of other buffers
 abbrev waits_with : Meaning → List ℕ → List (List Write) → Meaning

@@ -1,5 +1,5 @@
 -- What a store buffer means, and what its calls do. Assumes nothing.
-use Rattle.std.specs.Prelude.{◌≡◌, ◌<◌, List, [], ◌∷◌, ◌++◌, length, Some, None, Ok, Err, Option, Result}
+use Rattle.std.specs.Prelude.{◌≡◌, ◌<◌, List, [], ◌∷◌, ◌++◌, length, Ok, Err, Result}
 use Rattle.dated.specs.FixedRow.{entries_of}
 use Rattle.held.specs.declared.store_buffer.StoreBuffer.{StoreBuffer}
 use Rattle.memory.specs.declared.refusal.Refusal.{Refusal}
@@ -14,8 +14,3 @@ row b = entries_of b.writes
 abbrev pub Pushes : Write → List Write → List Write → Result (Unit {0}) Refusal → Type 0
 Pushes w ws ws' (Ok _) = (length ws < 8) × (ws' ≡ ws ++ w ∷ [])
 Pushes w ws ws' (Err e) = (e ≡ BufferFull) × (length ws ≡ 8) × (ws' ≡ ws)
-
--- the oldest write is taken out, where one waits
-abbrev pub TakesOldest : List Write → List Write → Option Write → Type 0
-TakesOldest ws ws' None = (ws ≡ []) × (ws' ≡ [])
-TakesOldest ws ws' (Some w) = ws ≡ w ∷ ws'

@@ -114,16 +114,12 @@ impl Memory for Held {
     }
 
     fn waiting(&self, thread: usize) -> usize {
-        if thread >= 8 {
-            return 0;
-        }
-        self.buffers[thread].len()
+        self.buffers.get(thread).map_or(0, |buffer| buffer.len())
     }
 
     fn oldest_date(&self, thread: usize) -> Option<u32> {
-        if thread >= 8 {
-            return None;
-        }
-        self.buffers[thread].oldest_date()
+        self.buffers
+            .get(thread)
+            .and_then(|buffer| buffer.oldest_date())
     }
 }

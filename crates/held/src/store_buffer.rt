@@ -2,8 +2,9 @@
 ghost use Rattle.std.specs.Prelude.{◌≡◌, [], length, reverse, ◌==◌};
 ghost use Rattle.std.specs.List.{find};
 ghost use Rattle.std.specs.Option.{option_map};
+ghost use Rattle.dated.specs.FixedRow.{TakesFirst};
 ghost use Rattle.memory.specs.Meaning.{date_of_first, newest};
-ghost use Rattle.held.specs.StoreBuffer.{row, Pushes, TakesOldest};
+ghost use Rattle.held.specs.StoreBuffer.{row, Pushes};
 
 use dated::fixed_row::FixedRow;
 use memory::refusal::Refusal;
@@ -58,7 +59,7 @@ impl StoreBuffer {
 
     // Takes the oldest waiting write out.
     pub(crate) fn take_oldest(&mut self) -> Option<Write>
-        ensures { TakesOldest (row self.old) (row self.new) result }
+        ensures { TakesFirst (row self.old) (row self.new) result }
     {
         self.writes.take_first()
     }
