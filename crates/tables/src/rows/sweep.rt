@@ -19,7 +19,7 @@ pub struct Sweep {
 impl Rule<Retired> for Sweep {
     ghost keeps = { λ s e. keeps s.bound s.clock (loaded_of s.loaded) e };
 
-    // An entry stays that is not old, or that a loaded cell names.
+    // An entry stays that is not old, or that a loaded cell names. (`as`, since there is no From from usize to u64.)
     fn keeps(&self, entry: &Retired) -> bool {
         u64::from(entry.date) + u64::from(self.bound) >= u64::from(self.clock)
             || self.loaded.as_slice().contains(&(entry.node as u64))

@@ -34,7 +34,7 @@ impl Thread {
     }
 
     // One match on the operation, its step and what the memory told. The last step of each operation stands for every further
-    // number.
+    // number. Nodes are `as` u64 for the memory and `as` usize in the tables, since neither has a From to the other.
     pub(crate) fn advance(
         &mut self,
         context: &Context,

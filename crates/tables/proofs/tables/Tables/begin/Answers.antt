@@ -1,4 +1,4 @@
-use Rattle.std.proofs.Common.{◌<◌, false, ap, ◌∙◌, arith, length-set, rules}
+use Rattle.std.proofs.Common.{ap, ◌∙◌, arith, length-set, rules}
 use Rattle.tables.specs.Rows.{states_of}
 use Rattle.tables.specs.Threads.{fitting}
 use Rattle.tables.proofs.Admission.{exits}
