@@ -12,10 +12,10 @@ entries_length r = length-take-le r.len r.places (omega arith)
 
 -- whether there was a place for one more
 pub append_some : (room len n : ℕ) → Some n ≡ appended room len → (len < room) × (n ≡ len + 1)
-append_some room len n e = elim (cases_lt len room) [ inl h ↦ (let f = lt-ltb len room h in (h, cc)) | inr h ↦ (let f = le-ltb len room h in let z : ◌≡◌ {A = ℕ} 0 1 = cc in absurd (omega arith)) ]
+append_some room len n e = elim (cases_lt len room) [ inl h ↦ (let f = lt-ltb len room h in (h, cc)) | inr h ↦ (let f = le-ltb len room h in absurd cc) ]
 
 pub append_none : (room len : ℕ) → None ≡ appended room len → room ≤ len
-append_none room len e = elim (cases_lt len room) [ inl h ↦ (let f = lt-ltb len room h in let z : ◌≡◌ {A = ℕ} 0 1 = cc in absurd (omega arith)) | inr h ↦ h ]
+append_none room len e = elim (cases_lt len room) [ inl h ↦ (let f = lt-ltb len room h in absurd cc) | inr h ↦ h ]
 
 -- a row with no first is empty
 pub first_none : {X : Type 0} (len : ℕ) (xs : List X) → len ≤ length xs → None ≡ first_of len xs → take len xs ≡ []
@@ -23,4 +23,4 @@ first_none {X} len xs within e = go (take len xs) (rw (le-ltb (length xs) len wi
   where
     go : (ys : List X) → None ≡ head_of ys → ys ≡ []
     go [] f = refl
-    go (y ∷ ys) f = let z : ◌≡◌ {A = ℕ} 0 1 = cc in absurd (omega arith)
+    go (y ∷ ys) f = absurd cc

@@ -1,6 +1,6 @@
 -- When each list of checks passes, and which check fails first. Assumes nothing.
 use Rattle.std.proofs.Common.{◌≡◌, ℕ, ◌<◌, ◌≤◌, Bool, true, false, not, ◌||◌, ltb, List, [], ◌∷◌, Some, None, refl, arith}
-use Rattle.std.proofs.lemmas.Bool.{lt-ltb, le-ltb, eq-eqb, ne_eqb, ltb-true, eqb-true, and_parts, and_from}
+use Rattle.std.proofs.lemmas.Bool.{lt-ltb, le-ltb, eq-eqb, ltb-true, eqb-true, and_parts, and_from}
 use Rattle.memory.specs.declared.refusal.Refusal.TheVariants.{OutOfRange, BufferFull, NothingWaiting, WritesWaiting, WriteDue, ClockAtEnd}
 use Rattle.memory.specs.Meaning.{Meaning, waiting_count, due}
 use Rattle.memory.specs.Checks.{Check, check, first_no, in_range, store_checks, land_checks, exchange_checks, tick_checks}
@@ -75,9 +75,6 @@ land_none t m p q = second_fails OutOfRange NothingWaiting (lt-ltb t 8 p) (le-lt
 
 pub exchange_passes : (t c : ℕ) (m : Meaning) → t < 8 → c < 64 → waiting_count m t ≡ 0 → first_no (exchange_checks t c m) ≡ None
 exchange_passes t c m p q r = both_pass OutOfRange WritesWaiting (in_range_lem p q) (eq-eqb (waiting_count m t) 0 r)
-
-pub exchange_waits : (t c : ℕ) (m : Meaning) → t < 8 → c < 64 → 0 < waiting_count m t → first_no (exchange_checks t c m) ≡ Some WritesWaiting
-exchange_waits t c m p q r = second_fails OutOfRange WritesWaiting (in_range_lem p q) (ne_eqb (waiting_count m t) 0 (λ e. omega arith))
 
 pub tick_passes : (m : Meaning) → m.clock < 1000000 → (m.self_landing || not (due m)) ≡ true → first_no (tick_checks m) ≡ None
 tick_passes m p q = both_pass ClockAtEnd WriteDue (lt-ltb m.clock 1000000 p) q

@@ -35,13 +35,13 @@ pub record NoThread (z : NodeState) : Type 0 where
   pub removed : (u : ℕ) → z ≡ Removed u → ⊥
 
 no_thread_free : NoThread Free
-no_thread_free = record { taken = λ u e. let y : ◌≡◌ {A = ℕ} 0 1 = cc in omega arith; removed = λ u e. let y : ◌≡◌ {A = ℕ} 0 1 = cc in omega arith }
+no_thread_free = record { taken = λ u e. absurd cc; removed = λ u e. absurd cc }
 
 no_thread_published : (r : ℕ) → NoThread (Published r)
-no_thread_published r = record { taken = λ u e. let y : ◌≡◌ {A = ℕ} 0 1 = cc in omega arith; removed = λ u e. let y : ◌≡◌ {A = ℕ} 0 1 = cc in omega arith }
+no_thread_published r = record { taken = λ u e. absurd cc; removed = λ u e. absurd cc }
 
 no_thread_retired : (t : ℕ) → NoThread (RetiredBy t)
-no_thread_retired t = record { taken = λ u e. let y : ◌≡◌ {A = ℕ} 0 1 = cc in omega arith; removed = λ u e. let y : ◌≡◌ {A = ℕ} 0 1 = cc in omega arith }
+no_thread_retired t = record { taken = λ u e. absurd cc; removed = λ u e. absurd cc }
 
 -- where a node goes when thread t goes to the point q: it stays with another thread or with none, or t has it there, or no thread does
 pub data Goes (t : ℕ) (q : Point) (n : ℕ) (was z : NodeState) : Type 0 where
@@ -66,14 +66,14 @@ work_moves x m m' t row ns lt w goes = record { taken = λ u n e. taken u n e (g
     taken u n e (stays f clash _) (inr ne) = let k = w.taken u n (sym f ∙ e) in (k.0, rw (other u ne) k.1)
     taken u n e (publishing r f g) (inl same) = (r, rw (own u same) g)
     taken u n e (publishing r f g) (inr ne) = absurd (ne (cc))
-    taken u n e (removing r f g) _ = let y : ◌≡◌ {A = ℕ} 0 1 = cc in absurd (omega arith)
+    taken u n e (removing r f g) _ = absurd cc
     taken u n e (no_thread l) _ = absurd (l.taken u e)
 
     removed : (u n : ℕ) → get_or ns n Free ≡ Removed u → Goes t row.point n (node_of x n) (get_or ns n Free) → (u ≡ t) ⊎ (u ≢ t)
         → (r : ℕ) × ((get_or (set x.threads t row) u (idle_thread 0)).point ≡ remove3 r n)
     removed u n e (stays f _ clash) (inl same) = absurd (clash (sym f ∙ e ∙ ap Removed same))
     removed u n e (stays f _ clash) (inr ne) = let k = w.removed u n (sym f ∙ e) in (k.0, rw (other u ne) k.1)
-    removed u n e (publishing r f g) _ = let y : ◌≡◌ {A = ℕ} 0 1 = cc in absurd (omega arith)
+    removed u n e (publishing r f g) _ = absurd cc
     removed u n e (removing r f g) (inl same) = (r, rw (own u same) g)
     removed u n e (removing r f g) (inr ne) = absurd (ne (cc))
     removed u n e (no_thread l) _ = absurd (l.removed u e)
@@ -135,18 +135,18 @@ module _ (x : Tables) (m m' : Meaning) (t : ℕ) (k : Told) (lt : t < x.settings
   -- a publish, and the last step of a remove, let go of their node
   publish_ends : (r n : ℕ) (z : NodeState) → (thread_of x t).point ≡ publish1 r n → n ≤ x.settings.nodes → NoThread z → (i : ℕ) → Goes t idle i (node_of x i) (get_or (set x.nodes n z) i Free)
   publish_ends r n z e le l =
-      mark_goes x m t lt p w (publish1 r n) e n z idle (inside n le) (no_thread l) (λ i j ne f. ne (cc)) (λ i j ne f. let y : ◌≡◌ {A = ℕ} 0 1 = cc in omega arith)
+      mark_goes x m t lt p w (publish1 r n) e n z idle (inside n le) (no_thread l) (λ i j ne f. ne (cc)) (λ i j ne f. absurd cc)
 
   retire_ends : (r n : ℕ) → (thread_of x t).point ≡ remove3 r n → n ≤ x.settings.nodes → (i : ℕ) → Goes t idle i (node_of x i) (get_or (set x.nodes n (RetiredBy t)) i Free)
   retire_ends r n e le =
-      mark_goes x m t lt p w (remove3 r n) e n (RetiredBy t) idle (inside n le) (no_thread (no_thread_retired t)) (λ i j ne f. let y : ◌≡◌ {A = ℕ} 0 1 = cc in omega arith) (λ i j ne f. ne (cc))
+      mark_goes x m t lt p w (remove3 r n) e n (RetiredBy t) idle (inside n le) (no_thread (no_thread_retired t)) (λ i j ne f. absurd cc) (λ i j ne f. ne (cc))
 
   remove_goes : (r n : ℕ) → (thread_of x t).point ≡ remove2 r n → FitsAt x.settings (remove2 r n) → Meets t (request (here x m t) (remove2 r n)) m m' k → Good (after (here x m t) (remove2 r n) k)
   remove_goes r n e f met =
       cond_both (done_told k) _ _ Good
       (λ done.
       let was = remove_was x m m' t r n k p f met done in
-      let ln = in_range_lem x.nodes n (λ g. let y : ◌≡◌ {A = ℕ} 0 1 = cc in omega arith) in
+      let ln = in_range_lem x.nodes n (λ g. absurd cc) in
       plain_marks x m t lt p w (remove2 r n) e n (Removed t) (remove3 r n) refl ln (removing r refl refl))
       (λ _. on (remove2 r n) e refl idle)
 
@@ -198,8 +198,8 @@ module _ (x : Tables) (m m' : Meaning) (t : ℕ) (k : Told) (lt : t < x.settings
 work_starts : FirstHolds AtWork
 work_starts z m new sound range =
     record {
-      taken = λ t n e. let f = same_all {A = NodeState} (z.nodes + 1) n Free in let y : ◌≡◌ {A = ℕ} 0 1 = cc in absurd (omega arith);
-      removed = λ t n e. let f = same_all {A = NodeState} (z.nodes + 1) n Free in let y : ◌≡◌ {A = ℕ} 0 1 = cc in absurd (omega arith);
+      taken = λ t n e. let f = same_all {A = NodeState} (z.nodes + 1) n Free in absurd cc;
+      removed = λ t n e. let f = same_all {A = NodeState} (z.nodes + 1) n Free in absurd cc;
     }
 
 work_kept : Kept AtWork

@@ -139,8 +139,8 @@ explains_locked = always LockHolds lock_starts lock_stays
 
 alone : (z : Settings) (a : LockState) → LockInv z a → (t u : ℕ) → a.inside t ≡ true → a.inside u ≡ true → t ≡ u
 alone z a i zero zero e f = refl
-alone z a i zero (suc u) e f = let out = i.owned.alone (suc u) (omega arith) f in let y : ◌≡◌ {A = ℕ} 0 1 = cc in absurd (omega arith)
-alone z a i (suc t) zero e f = let out = i.owned.alone (suc t) (omega arith) e in let y : ◌≡◌ {A = ℕ} 0 1 = cc in absurd (omega arith)
+alone z a i zero (suc u) e f = let out = i.owned.alone (suc u) (omega arith) f in absurd cc
+alone z a i (suc t) zero e f = let out = i.owned.alone (suc t) (omega arith) e in absurd cc
 alone z a i (suc t) (suc u) e f =
     let one = (inside_odd (i.turns.others (suc t) (omega arith)) e).0 in
     let two = (inside_odd (i.turns.others (suc u) (omega arith)) f).0 in
@@ -150,7 +150,7 @@ pub at_most_one_inside : AtMostOneInside
 at_most_one_inside h s w t u e f = go s.tables refl
   where
     go : (o : Option Tables) → s.tables ≡ o → t ≡ u
-    go None n = let d = ((explains_reached h s w).before n).inside t in let y : ◌≡◌ {A = ℕ} 0 1 = cc in absurd (omega arith)
+    go None n = let d = ((explains_reached h s w).before n).inside t in absurd cc
     go (Some x) n =
         let shown = ((explains_reached h s w).shown x n).shows in
         alone x.settings (lock_state x s.memory) (explains_locked h s w x n) t u (shown.inside t ∙ e) (shown.inside u ∙ f)

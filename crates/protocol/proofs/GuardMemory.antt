@@ -199,7 +199,7 @@ module _ (x : Tables) (t : ℕ) (m m' : Meaning) (s : Sound m) (o : Owns x.setti
       where_it = hazard_is x.settings t p.write is
 
       inside : t < x.settings.threads
-      inside = elim (cases_lt t x.settings.threads) [ inl lt ↦ lt | inr far ↦ absurd (let e = o.beyond t far in let f = p.was in let y : ◌≡◌ {A = ℕ} 0 1 = cc in omega arith) ]
+      inside = elim (cases_lt t x.settings.threads) [ inl lt ↦ lt | inr far ↦ absurd (let e = o.beyond t far in let f = p.was in absurd cc) ]
 
       small : p.write.cell < length m.cells
       small = let e = s.cells in let h = (rw p.was at (s.in_cells t)).0 in omega arith

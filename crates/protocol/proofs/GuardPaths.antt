@@ -78,8 +78,7 @@ guard_path s s' x x' (refuses f e) i o g h rd =
     at_tables s s' x x' x x g h g (rw e g) (rw e (rested x.settings x s.memory))
 guard_path s s' x x' (sets_up {z} f e j) i o g h rd =
     let none = (set_up_passed z s f).first in
-    let y : ◌≡◌ {A = ℕ} 0 1 = cc in
-    absurd (omega arith)
+    absurd cc
 guard_path s s' x x' (ticks {x = y} e f w) i o g h rd =
     let l = w.memory.between in
     let same : x ≡ y = cc in
@@ -120,7 +119,7 @@ guard_first z m s new =
       ready = λ t. rw (first_idle z t).1 tt;
       used = λ t i pos. absurd (none t i pos);
       shows = λ t i pos. absurd (none t i pos);
-      protecting = λ t r h n e. let f = ap (λ (w : Thread). w.point) (first_idle z t).1 in let y : ◌≡◌ {A = ℕ} 0 1 = cc in absurd (omega arith);
+      protecting = λ t r h n e. let f = ap (λ (w : Thread). w.point) (first_idle z t).1 in absurd cc;
       past = λ t. rw (new_empty m s new t) tt;
       in_time = λ t. rw (new_empty m s new t) tt;
       listed = λ u. rw (first_idle z u).1 tt;

@@ -209,7 +209,7 @@ module _ (x : Tables) (m m' : Meaning) (t : ℕ) (lt : t < x.settings.threads) (
       let ns = set x.nodes n (Removed t) in
       let held : cell l r ≡ n = eqb-true (cell l r) n (sym w.answer) in
       let is : node_of x n ≡ Published r = rw held at ((lands_placed x w.lands p).rooted r lr (rw held pos)) in
-      let ln : n < length x.nodes = in_range_lem x.nodes n (λ e. let z : ◌≡◌ {A = ℕ} 0 1 = cc in omega arith) in
+      let ln : n < length x.nodes = in_range_lem x.nodes n (λ e. absurd cc) in
       on_exchange to ns w
       (removes {r = r} {n = n} is (goes x l l' t to ns row) (cells_then x l l' t to ns (exchanged_view x r n 0 l (inl lr))) (same_guards x l l' t to ns row refl)
       (marks x l l' t to ns n (Removed t) refl ln) (same_lists x l l' t to ns row refl))

@@ -114,7 +114,7 @@ module _ (z : Settings) (t : ℕ) (a a' : GuardState) (g : Guarded z a) where
           rw s.here (last_store (a.view t) (a.slots t) (record { index = h; value = n; date = a.clock }) h' ∙ rw (eq-eqb h h' x) y)
 
       never_sweeps : (u i now : ℕ) (seen : List ℕ) → 0 < b.guard u i → SweepAt z now seen (protect3 r h n) → AllByRecursion (SpottedAs z b t u i (b.guard u i) now seen) (b.list t)
-      never_sweeps u i now seen pos x = elim (sweep_at x) [ inl f ↦ let y : ◌≡◌ {A = ℕ} 0 1 = cc in absurd (omega arith) | inr f ↦ let y : ◌≡◌ {A = ℕ} 0 1 = cc in absurd (omega arith) ]
+      never_sweeps u i now seen pos x = elim (sweep_at x) [ inl f ↦ absurd cc | inr f ↦ absurd cc ]
 
   acts_protects4 : (r h : ℕ) → a.point t ≡ protect4 r h → Goes t a a' idle → StoresSlot t h 0 a a' → SameGuards a a' → SameNodes a a' → SameLists a a' → Guarded z a'
   acts_protects4 r h e goes s k m l =
@@ -158,7 +158,7 @@ module _ (z : Settings) (t : ℕ) (a a' : GuardState) (g : Guarded z a) where
       b = with_point a'.point a
 
       free : (u : ℕ) → AllByRecursion (λ (e : Retired). e.node ≡ n → ⊥) (a.list u)
-      free = unlisted n (λ u f. let y : ◌≡◌ {A = ℕ} 0 1 = cc in omega arith)
+      free = unlisted n (λ u f. absurd cc)
 
   acts_copies : (c d : ℕ) → a.point t ≡ copy1 c d → Goes t a a' idle → StoresSlot t d (a.guard t c) a a' → Guards t d (a.guard t c) a a' → SameNodes a a' → SameLists a a' → Guarded z a'
   acts_copies c d e goes s k m l =
@@ -227,12 +227,12 @@ module _ (z : Settings) (t : ℕ) (a a' : GuardState) (g : Guarded z a) where
       b = with_node a'.node (with_point a'.point a)
 
       kept : Guarded z b
-      kept = mark_keeps z (with_point a'.point a) (gone goes) n (RetiredBy t) a'.node m.here m.others (λ u f. let y : ◌≡◌ {A = ℕ} 0 1 = cc in omega arith) (λ x. tt)
+      kept = mark_keeps z (with_point a'.point a) (gone goes) n (RetiredBy t) a'.node m.here m.others (λ u f. absurd cc) (λ x. tt)
 
   -- Sweeps.
 
   acts_scans1 : Goes t a a' (reclaim2 a.clock []) → SameCells a a' → SameGuards a a' → SameNodes a a' → SameLists a a' → Guarded z a'
-  acts_scans1 goes c k m l = goes_on c k m l (point_keeps z a g t p a'.point goes.point goes.points tt (λ r h n e. let y : ◌≡◌ {A = ℕ} 0 1 = cc in absurd (omega arith)) sweeping)
+  acts_scans1 goes c k m l = goes_on c k m l (point_keeps z a g t p a'.point goes.point goes.points tt (λ r h n e. absurd cc) sweeping)
     where
       p : Point
       p = reclaim2 a.clock []
@@ -251,7 +251,7 @@ module _ (z : Settings) (t : ℕ) (a a' : GuardState) (g : Guarded z a) where
             let x : now ≡ a.clock = cc in
             let y : seen ≡ [] = cc in
             rw (x, y) (All-weaker (VisibleAs a u i (a.guard u i)) (SpottedAs z a t u i (a.guard u i) a.clock []) (starts u i pos (cases_eq u t)) (a.list t) (g.visible u i t pos))
-        | inr f ↦ let y : ◌≡◌ {A = ℕ} 0 1 = cc in absurd (omega arith)
+        | inr f ↦ absurd cc
       ]
 
   acts_scans2 : (now v : ℕ) (seen : List ℕ) (p : Point) → a.point t ≡ reclaim2 now seen → length seen < hazard_cells z → Loads z t a (length seen) v → SweepAt z now (seen ++ v ∷ []) p
@@ -264,8 +264,8 @@ module _ (z : Settings) (t : ℕ) (a a' : GuardState) (g : Guarded z a) where
       ready (inr f) = rw f tt
 
       unlike : (p ≡ reclaim2 now (seen ++ v ∷ [])) ⊎ (p ≡ reclaim3 now (seen ++ v ∷ [])) → (r h n : ℕ) → p ≡ protect3 r h n → last_of (a.view t) (a.slots t) h ≡ n
-      unlike (inl f) r h n d = let y : ◌≡◌ {A = ℕ} 0 1 = cc in absurd (omega arith)
-      unlike (inr f) r h n d = let y : ◌≡◌ {A = ℕ} 0 1 = cc in absurd (omega arith)
+      unlike (inl f) r h n d = absurd cc
+      unlike (inr f) r h n d = absurd cc
 
       more : (u i : ℕ) → 0 < a.guard u i → AllByRecursion (SpottedAs z a t u i (a.guard u i) now (seen ++ v ∷ [])) (a.list t)
       more u i pos =
@@ -278,8 +278,8 @@ module _ (z : Settings) (t : ℕ) (a a' : GuardState) (g : Guarded z a) where
         where
           at : (p ≡ reclaim2 now (seen ++ v ∷ [])) ⊎ (p ≡ reclaim3 now (seen ++ v ∷ [])) → (p ≡ reclaim2 now' seen') ⊎ (p ≡ reclaim3 now' seen') → AllByRecursion (SpottedAs z a t u i (a.guard u i) now' seen') (a.list t)
           at (inl f) (inl h) = let b : now' ≡ now = cc in let d : seen' ≡ seen ++ v ∷ [] = cc in rw (b, d) (more u i pos)
-          at (inl f) (inr h) = let y : ◌≡◌ {A = ℕ} 0 1 = cc in absurd (omega arith)
-          at (inr f) (inl h) = let y : ◌≡◌ {A = ℕ} 0 1 = cc in absurd (omega arith)
+          at (inl f) (inr h) = absurd cc
+          at (inr f) (inl h) = absurd cc
           at (inr f) (inr h) = let b : now' ≡ now = cc in let d : seen' ≡ seen ++ v ∷ [] = cc in rw (b, d) (more u i pos)
 
   acts_sweeps : (now : ℕ) (seen : List ℕ) → ((n : ℕ) → names n (a.list t) ≤ 1) → a.point t ≡ reclaim3 now seen → length seen ≡ hazard_cells z → Goes t a a' idle → SameCells a a' → SameGuards a a'
@@ -343,10 +343,10 @@ guarded_acts z t a a' (protects3 {r} {h} {n} e low pos is goes c k m l) lt f g =
 guarded_acts z t a a' (protects4 {r} {h} e low goes s k m l) lt f g = acts_protects4 z t a a' g r h e goes s k m l
 guarded_acts z t a a' (copies {c} {b} e goes s k m l) lt f g = acts_copies z t a a' g c b e goes s k m l
 guarded_acts z t a a' (releases {c} e low goes s k m l) lt f g = acts_releases z t a a' g c goes s k m l
-guarded_acts z t a a' (takes {r} {n} is goes c k m l) lt f g = acts_marks z t a a' g n (Taken t) (publish1 r n) tt tt (λ u h. let y : ◌≡◌ {A = ℕ} 0 1 = cc in omega arith) (λ x. rw is at x) goes c k m l
-guarded_acts z t a a' (publishes {r} {n} is goes c k m l) lt f g = acts_marks z t a a' g n (Published r) idle tt tt (λ u h. let y : ◌≡◌ {A = ℕ} 0 1 = cc in omega arith) (λ x. tt) goes c k m l
-guarded_acts z t a a' (occupied {n} is goes c k m l) lt f g = acts_marks z t a a' g n Free idle tt tt (λ u h. let y : ◌≡◌ {A = ℕ} 0 1 = cc in omega arith) (λ x. rw is at x) goes c k m l
-guarded_acts z t a a' (removes {r} {n} is goes c k m l) lt f g = acts_marks z t a a' g n (Removed t) (remove3 r n) tt tt (λ u h. let y : ◌≡◌ {A = ℕ} 0 1 = cc in omega arith) (λ x. tt) goes c k m l
+guarded_acts z t a a' (takes {r} {n} is goes c k m l) lt f g = acts_marks z t a a' g n (Taken t) (publish1 r n) tt tt (λ u h. absurd cc) (λ x. rw is at x) goes c k m l
+guarded_acts z t a a' (publishes {r} {n} is goes c k m l) lt f g = acts_marks z t a a' g n (Published r) idle tt tt (λ u h. absurd cc) (λ x. tt) goes c k m l
+guarded_acts z t a a' (occupied {n} is goes c k m l) lt f g = acts_marks z t a a' g n Free idle tt tt (λ u h. absurd cc) (λ x. rw is at x) goes c k m l
+guarded_acts z t a a' (removes {r} {n} is goes c k m l) lt f g = acts_marks z t a a' g n (Removed t) (remove3 r n) tt tt (λ u h. absurd cc) (λ x. tt) goes c k m l
 guarded_acts z t a a' (retires {n} is goes c k m l) lt f g = acts_retires z t a a' g n is goes c k m l
 guarded_acts z t a a' (scans1 goes c k m l) lt f g = acts_scans1 z t a a' g goes c k m l
 guarded_acts z t a a' (scans2 {now} {v} {seen} {p'} e low loads s goes c k m l) lt f g = acts_scans2 z t a a' g now v seen p' e low loads s goes c k m l

@@ -41,7 +41,7 @@ cells_within k t n lt = rw (mul_comm n k) (cells_before k t n lt)
 -- What a sweep has seen.
 
 seen_before : (n v : ℕ) (seen : List ℕ) → any_of (λ x. eqb x n) seen ≡ true → any_of (λ x. eqb x n) (seen ++ v ∷ []) ≡ true
-seen_before n v [] e = let y : ◌≡◌ {A = ℕ} 0 1 = cc in absurd (omega arith)
+seen_before n v [] e = absurd cc
 seen_before n v (x ∷ xs) e = elim (or_cases (eqb x n) (any_of (λ x. eqb x n) xs) e) [
   | inl y ↦ or_left (eqb x n) (any_of (λ x. eqb x n) (xs ++ v ∷ [])) y
   | inr y ↦ or_right (eqb x n) (any_of (λ x. eqb x n) (xs ++ v ∷ [])) (seen_before n v xs y)

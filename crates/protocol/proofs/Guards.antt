@@ -49,8 +49,7 @@ module _ (z : Settings) (t : ℕ) (a a' : GuardState) (f : Facts z a) where
             let was = named_state a.node (RetiredBy t) k (a.list t) (g.listed t) lt in
             let same = eqb-true n k e in
             let now : a.node k ≡ Removed t = subst (λ (j : ℕ). a.node j ≡ Removed t) same is in
-            let y : ◌≡◌ {A = ℕ} 0 1 = cc in
-            absurd (omega arith)
+            absurd cc
         | inr le ↦ omega arith
       ]
 

@@ -1,5 +1,5 @@
 -- Runs over a memory that lands nothing by itself are histories, and the eight marked ones answer as marked. Assumes nothing.
-use Rattle.std.proofs.Common.{◌≡◌, ℕ, ◌≤◌, Bool, true, false, cond, eqb, List, [], ◌∷◌, Some, None, Option, refl, ◌∙◌, arith}
+use Rattle.std.proofs.Common.{◌≡◌, ℕ, ◌≤◌, Bool, true, false, cond, eqb, List, [], ◌∷◌, Some, None, Option, refl, ◌∙◌}
 use Rattle.std.proofs.lemmas.Bool.{not-true}
 use Rattle.memory.specs.Checks.{first_no, tick_checks}
 use Rattle.memory.specs.Meaning.{Meaning, cell, with_cell, loaded, stored, landed, exchanged, ticked, due}
@@ -79,21 +79,20 @@ begins_as s t o a b x e g = go (named o a b) refl
     go : (p : Option Operation) → named o a b ≡ p → Trans s (does (Begin t o a b) (Some x) s).state (Begin t o a b) (does (Begin t o a b) (Some x) s).answer (does (Begin t o a b) (Some x) s).told
     go None n =
         let y : false ≡ true = (all_pass (begin_asks t None x) (rw n at rest)).1.1.0 in
-        let w : ◌≡◌ {A = ℕ} 0 1 = cc in
-        absurd (omega arith)
+        absurd cc
     go (Some p) n = begins e n g (record { memory = refl; tables = rw n refl })
 
 accepted_trans : (s : State) → s.memory.self_landing ≡ false → (c : Call) (o : Option Tables) → s.tables ≡ o → first_no (checks_of c s) ≡ None
     → Trans s (does c o s).state c (does c o s).answer (does c o s).told
 accepted_trans s self (SetUp z) o e g = sets_up g refl refl
-accepted_trans s self Tick None e g = absurd (let y : first_no (first None (λ (x : Tables). tick_asks s.memory)) ≡ None = rw e at g in let w : ◌≡◌ {A = ℕ} 0 1 = cc in omega arith)
+accepted_trans s self Tick None e g = absurd (let y : first_no (first None (λ (x : Tables). tick_asks s.memory)) ≡ None = rw e at g in absurd cc)
 accepted_trans s self Tick (Some x) e g =
     ticks e g (record { memory = record { between = s.memory; lands = lands_none s.memory; none_due = none_due_lem s.memory self (rest_passed s.tables (λ (y : Tables). tick_asks s.memory) x e g); is = refl }; tables = refl })
-accepted_trans s self (Land t) None e g = absurd (let y = rw e at g in let w : ◌≡◌ {A = ℕ} 0 1 = cc in omega arith)
+accepted_trans s self (Land t) None e g = absurd (let y = rw e at g in absurd cc)
 accepted_trans s self (Land t) (Some x) e g = lands e g (record { memory = lands_none (landed t s.memory); tables = refl })
-accepted_trans s self (Begin t o a b) None e g = absurd (let y = rw e at g in let w : ◌≡◌ {A = ℕ} 0 1 = cc in omega arith)
+accepted_trans s self (Begin t o a b) None e g = absurd (let y = rw e at g in absurd cc)
 accepted_trans s self (Begin t o a b) (Some x) e g = begins_as s t o a b x e g
-accepted_trans s self (Step t) None e g = absurd (let y = rw e at g in let w : ◌≡◌ {A = ℕ} 0 1 = cc in omega arith)
+accepted_trans s self (Step t) None e g = absurd (let y = rw e at g in absurd cc)
 accepted_trans s self (Step t) (Some x) e g = steps e g (record { memory = meets t (request (here x s.memory t) (thread_of x t).point) s.memory; tables = refl; answer = refl })
 
 held_trans : (s : State) (c : Call) → s.memory.self_landing ≡ false → Trans s (performs s c).state c (performs s c).answer (performs s c).told

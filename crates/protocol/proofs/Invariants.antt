@@ -1,5 +1,5 @@
 -- What holds right after set-up and is kept by every call holds in every explained state. Assumes nothing.
-use Rattle.std.proofs.Common.{◌≡◌, ℕ, ◌<◌, true, List, [], ◌∷◌, Some, None, Option, refl, ap, ◌∙◌, subst, arith}
+use Rattle.std.proofs.Common.{◌≡◌, ℕ, ◌<◌, true, List, [], ◌∷◌, Some, None, Option, refl, ap, ◌∙◌, subst}
 use Rattle.memory.specs.Calls.{Sound, Ticked}
 use Rattle.memory.specs.Landings.{Lands}
 use Rattle.memory.specs.Meaning.{Meaning, landed, is_new}
@@ -21,7 +21,7 @@ use Rattle.protocol.proofs.ShownKeeps.{explains_reached}
 -- no call changes the settings
 pub settings_stay : (s s' : State) {c : Call} {a : Answer} {k : Told} (x x' : Tables) → Trans s s' c a k → s.tables ≡ Some x → s'.tables ≡ Some x' → x'.settings ≡ x.settings
 settings_stay s s' x x' (refuses f h) e e' = let g : x' ≡ x = cc in ap (λ (y : Tables). y.settings) g
-settings_stay s s' x x' (sets_up {z} f h g) e e' = let none = (set_up_passed z s f).first in let y : ◌≡◌ {A = ℕ} 0 1 = cc in absurd (omega arith)
+settings_stay s s' x x' (sets_up {z} f h g) e e' = let none = (set_up_passed z s f).first in absurd cc
 settings_stay s s' x x' (ticks {x = y} h f w) e e' = let j = w.tables in let g : x' ≡ counted y = cc in let k : y ≡ x = cc in ap (λ (n : Tables). n.settings) g ∙ ap (λ (n : Tables). n.settings) k
 settings_stay s s' x x' (lands {x = y} h f w) e e' = let j = w.tables in let g : x' ≡ counted y = cc in let k : y ≡ x = cc in ap (λ (n : Tables). n.settings) g ∙ ap (λ (n : Tables). n.settings) k
 settings_stay s s' x x' (begins {t} {p = p} {x = y} h n f w) e e' = let j = w.tables in let g : x' ≡ counted (begun y t p) = cc in let k : y ≡ x = cc in ap (λ (n : Tables). n.settings) g ∙ ap (λ (n : Tables). n.settings) k
@@ -56,7 +56,7 @@ module _ (P : Tables → Meaning → Type 0) (kept : Kept P) (s s' : State) (x x
 
   call_keeps : {c : Call} {a : Answer} {k : Told} → Trans s s' c a k → P x s.memory → P x' s'.memory
   call_keeps (refuses f h) = to x x e (ap (λ (n : State). n.tables) h ∙ e) (λ p. rw h p)
-  call_keeps (sets_up {z} f h g) = let none = (set_up_passed z s f).first in let y : ◌≡◌ {A = ℕ} 0 1 = cc in absurd (omega arith)
+  call_keeps (sets_up {z} f h g) = let none = (set_up_passed z s f).first in absurd cc
   call_keeps (ticks {x = y} h f w) = to y (counted y) h w.tables (kept.ticks y s.memory s'.memory (i.placed y h) (calls_left s.tables (λ n. tick_asks s.memory) y h f) w.memory)
   call_keeps (lands {t} {x = y} h f w) = to y (counted y) h w.tables (kept.lands y s.memory s'.memory t (i.placed y h) (calls_left s.tables (land_asks t s.memory) y h f) w.memory)
   call_keeps (begins {t} {o} {a} {b} {p} {x = y} h g f w) =
@@ -72,18 +72,18 @@ calls_keep P kept s s' c a k x x' w i e e' = call_keeps P kept s s' x x' i e e' 
 -- tables come from set-up alone
 set_up_holds : (P : Tables → Meaning → Type 0) → FirstHolds P → (s s' : State) {c : Call} {a : Answer} {k : Told} (x' : Tables) → Trans s s' c a k → Sound s.memory
     → s.tables ≡ None → s'.tables ≡ Some x' → P x' s'.memory
-set_up_holds P first s s' x' (refuses f h) sound e e' = let y : ◌≡◌ {A = ℕ} 0 1 = cc in absurd (omega arith)
+set_up_holds P first s s' x' (refuses f h) sound e e' = absurd cc
 set_up_holds P first s s' x' (sets_up {z} f h g) sound e e' =
     let p = set_up_passed z s f in
     let is : first_tables z ≡ x' = cc in
     rw h (subst (λ (n : Tables). P n s.memory) is (first z s.memory p.new sound p.range))
-set_up_holds P first s s' x' (ticks h f w) sound e e' = let y : ◌≡◌ {A = ℕ} 0 1 = cc in absurd (omega arith)
-set_up_holds P first s s' x' (lands h f w) sound e e' = let y : ◌≡◌ {A = ℕ} 0 1 = cc in absurd (omega arith)
-set_up_holds P first s s' x' (begins h n f w) sound e e' = let y : ◌≡◌ {A = ℕ} 0 1 = cc in absurd (omega arith)
-set_up_holds P first s s' x' (steps h f w) sound e e' = let y : ◌≡◌ {A = ℕ} 0 1 = cc in absurd (omega arith)
+set_up_holds P first s s' x' (ticks h f w) sound e e' = absurd cc
+set_up_holds P first s s' x' (lands h f w) sound e e' = absurd cc
+set_up_holds P first s s' x' (begins h n f w) sound e e' = absurd cc
+set_up_holds P first s s' x' (steps h f w) sound e e' = absurd cc
 
 pub always : (P : Tables → Meaning → Type 0) → FirstHolds P → CallsKeep P → (h : List Event) (s : State) → Explains h s → (x : Tables) → s.tables ≡ Some x → P x s.memory
-always P first keep [] s (none, sound) x e = let y : ◌≡◌ {A = ℕ} 0 1 = cc in absurd (omega arith)
+always P first keep [] s (none, sound) x e = absurd cc
 always P first keep (v ∷ h) s' (s, led, w) x' e' = at s.tables refl (always P first keep h s led)
   where
     inv : Inv s

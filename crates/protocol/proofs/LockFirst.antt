@@ -20,14 +20,14 @@ pub record Untouched (a : LockState) : Type 0 where
 
 module _ (z : Settings) (a : LockState) (u : Untouched a) where
   outside : (t : ℕ) → a.inside t ≡ true → ⊥
-  outside t e = let f = u.inside t in let y : ◌≡◌ {A = ℕ} 0 1 = cc in omega arith
+  outside t e = let f = u.inside t in absurd cc
 
   at_none : (t v : ℕ) → a.point t ≡ other_lock3 v → ⊥
-  at_none t v e = let f = u.point t in let y : ◌≡◌ {A = ℕ} 0 1 = cc in omega arith
+  at_none t v e = let f = u.point t in absurd cc
 
   holds_none : {own : ℕ} → Holds own (a.point 0) (a.inside 0) → ⊥
   holds_none (slow w e f) = outside 0 e
-  holds_none (last e) = let f = u.point 0 in let y : ◌≡◌ {A = ℕ} 0 1 = cc in omega arith
+  holds_none (last e) = let f = u.point 0 in absurd cc
 
   pub untouched_turns : Turns z a
   untouched_turns =

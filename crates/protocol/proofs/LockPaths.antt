@@ -117,8 +117,7 @@ land_path x m m' t s l =
 pub set_up_once : (z : Settings) (s : State) (x : Tables) → s.tables ≡ Some x → first_no (checks_of (SetUp z) s) ≡ None → ⊥
 set_up_once z s x e f =
     let none = (set_up_passed z s f).first in
-    let y : ◌≡◌ {A = ℕ} 0 1 = cc in
-    absurd (omega arith)
+    absurd cc
 
 -- what an owner about to echo a version stores fits into a word
 abbrev pub SmallEcho : Tables → Type 0

@@ -86,7 +86,7 @@ module _ (x : Tables) (m : Meaning) (p : Placed x m) (g : GuardInv x m) where
   list_small t =
       pigeons (thread_of x t).retired (up_to 64) (named_once x m t p)
       (All-weaker (λ (e : Retired). node_of x e.node ≡ RetiredBy t) (λ (e : Retired). is_in e.node (up_to 64) ≡ true)
-      (λ e is. in_up_to e.node 64 (node_small e.node (λ f. let y : ◌≡◌ {A = ℕ} 0 1 = cc in absurd (omega arith))))
+      (λ e is. in_up_to e.node 64 (node_small e.node (λ f. absurd cc)))
       (thread_of x t).retired (g.guarded.listed t))
 
   -- The values of the answers to steps.
@@ -98,7 +98,7 @@ module _ (x : Tables) (m : Meaning) (p : Placed x m) (g : GuardInv x m) where
     found_small : (r n : ℕ) → r < x.settings.roots → 0 < n → Meets t (asks_load r) m m' k → value_told k ≡ n → n ≤ 64
     found_small r n lr pos w e =
         let is = published_at x m m' t lt p g.owns r n w.2.lands lr pos (sym w.2.value ∙ (sym (ap value_told w.1) ∙ e)) in
-        node_small n (λ f. let y : ◌≡◌ {A = ℕ} 0 1 = cc in absurd (omega arith))
+        node_small n (λ f. absurd cc)
 
     freed_small : (now : ℕ) (seen : List ℕ) → length (freed m.bound now seen (thread_of x t).retired) ≤ 65
     freed_small now seen =

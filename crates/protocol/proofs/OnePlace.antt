@@ -113,9 +113,9 @@ unset_one_place : (b : ℕ) (h : List Event) → Untouched h → ((r : ℕ) → 
 unset_one_place b h k roots n real f c =
     record {
       free = f;
-      taken = λ t r e. let d = k.doing t in let z : ◌≡◌ {A = ℕ} 0 1 = cc in absurd (omega arith);
+      taken = λ t r e. let d = k.doing t in absurd cc;
       published = λ r e. let d = roots r in absurd (omega arith);
-      rooted = λ r e. let d = k.nodes b n in let z : ◌≡◌ {A = ℕ} 0 1 = cc in absurd (omega arith);
+      rooted = λ r e. let d = k.nodes b n in absurd cc;
       removed = λ t e f. absurd (both_ways false refl (rw (k.doing t) at e));
       listed = λ t. rw (k.lists b t, k.nodes b n) refl;
       counts = c;
@@ -124,8 +124,8 @@ unset_one_place b h k roots n real f c =
 unset_has_no_thread : (b : ℕ) (h : List Event) → Untouched h → (n : ℕ) → HasItsThread b h n
 unset_has_no_thread b h k n =
     record {
-      taking = λ t e. let d = k.nodes b n in let z : ◌≡◌ {A = ℕ} 0 1 = cc in absurd (omega arith);
-      removing = λ t e. let d = k.nodes b n in let z : ◌≡◌ {A = ℕ} 0 1 = cc in absurd (omega arith);
+      taking = λ t e. let d = k.nodes b n in absurd cc;
+      removing = λ t e. let d = k.nodes b n in absurd cc;
     }
 
 -- The theorems.

@@ -97,16 +97,16 @@ loop_outside unlocks4 l = refl
 
 -- a thread inside has L, and flag1 is raised
 pub inside_odd : {z : Settings} {L f1 u : ℕ} {p : Point} {i : Bool} {ws : List Write} → Other z L f1 u p i ws → i ≡ true → (L ≡ u + 1) × (f1 % 2 ≡ 1)
-inside_odd (away l a i e) t = let y : ◌≡◌ {A = ℕ} 0 1 = cc in absurd (omega arith)
-inside_odd (enters2 w l p i e f) t = let y : ◌≡◌ {A = ℕ} 0 1 = cc in absurd (omega arith)
-inside_odd (enters3 w l p i e f) t = let y : ◌≡◌ {A = ℕ} 0 1 = cc in absurd (omega arith)
-inside_odd (raising w d l p i e f) t = let y : ◌≡◌ {A = ℕ} 0 1 = cc in absurd (omega arith)
-inside_odd (raised w l p i e f) t = let y : ◌≡◌ {A = ℕ} 0 1 = cc in absurd (omega arith)
+inside_odd (away l a i e) t = absurd cc
+inside_odd (enters2 w l p i e f) t = absurd cc
+inside_odd (enters3 w l p i e f) t = absurd cc
+inside_odd (raising w d l p i e f) t = absurd cc
+inside_odd (raised w l p i e f) t = absurd cc
 inside_odd (within w l p i e f) t = (l, omega arith)
-inside_odd (lowering w d l p i e f) t = let y : ◌≡◌ {A = ℕ} 0 1 = cc in absurd (omega arith)
-inside_odd (lowered w l p i e f) t = let y : ◌≡◌ {A = ℕ} 0 1 = cc in absurd (omega arith)
-inside_odd (releasing2 w d e l p i ws f) t = let y : ◌≡◌ {A = ℕ} 0 1 = cc in absurd (omega arith)
-inside_odd (releasing w e l p i ws f) t = let y : ◌≡◌ {A = ℕ} 0 1 = cc in absurd (omega arith)
+inside_odd (lowering w d l p i e f) t = absurd cc
+inside_odd (lowered w l p i e f) t = absurd cc
+inside_odd (releasing2 w d e l p i ws f) t = absurd cc
+inside_odd (releasing w e l p i ws f) t = absurd cc
 
 -- Values of flag0.
 
@@ -196,13 +196,13 @@ pub data Oldest (z : Settings) (f1 : ℕ) (w : Write) : Type 0 where
   frees : w.cell ≡ lock_cell z → Oldest z f1 w
 
 pub other_oldest : {z : Settings} {L f1 u : ℕ} {p : Point} {i : Bool} {ws : List Write} (w : Write) (rest : List Write) → ws ≡ w ∷ rest → Other z L f1 u p i ws → Oldest z f1 w
-other_oldest w rest was (away l a i e) = let y : ◌≡◌ {A = ℕ} 0 1 = cc in absurd (omega arith)
-other_oldest w rest was (enters2 v l p i e f) = let y : ◌≡◌ {A = ℕ} 0 1 = cc in absurd (omega arith)
-other_oldest w rest was (enters3 v l p i e f) = let y : ◌≡◌ {A = ℕ} 0 1 = cc in absurd (omega arith)
+other_oldest w rest was (away l a i e) = absurd cc
+other_oldest w rest was (enters2 v l p i e f) = absurd cc
+other_oldest w rest was (enters3 v l p i e f) = absurd cc
 other_oldest {z} w rest was (raising v d l p i e f) = let k : w ≡ flag1_write z (2 * (v + 1) + 1) d = cc in raises v (ap (λ (x : Write). x.cell) k) (ap (λ (x : Write). x.value) k) f
-other_oldest w rest was (raised v l p i e f) = let y : ◌≡◌ {A = ℕ} 0 1 = cc in absurd (omega arith)
-other_oldest w rest was (within v l p i e f) = let y : ◌≡◌ {A = ℕ} 0 1 = cc in absurd (omega arith)
+other_oldest w rest was (raised v l p i e f) = absurd cc
+other_oldest w rest was (within v l p i e f) = absurd cc
 other_oldest {z} w rest was (lowering v d l p i e f) = let k : w ≡ flag1_write z (2 * (v + 2)) d = cc in lowers v (ap (λ (x : Write). x.cell) k) (ap (λ (x : Write). x.value) k) f
-other_oldest w rest was (lowered v l p i e f) = let y : ◌≡◌ {A = ℕ} 0 1 = cc in absurd (omega arith)
+other_oldest w rest was (lowered v l p i e f) = absurd cc
 other_oldest {z} w rest was (releasing2 v d d' l p i e f) = let k : w ≡ flag1_write z (2 * (v + 2)) d = cc in lowers v (ap (λ (x : Write). x.cell) k) (ap (λ (x : Write). x.value) k) f
 other_oldest {z} w rest was (releasing v d l p i e f) = let k : w ≡ release_write z d = cc in frees (ap (λ (x : Write). x.cell) k)

@@ -19,7 +19,7 @@ without n [] = []
 without n (v ∷ vs) = cond (eqb v n) vs (v ∷ without n vs)
 
 without_shorter : (n : ℕ) (seen : List ℕ) → is_in n seen ≡ true → suc (length (without n seen)) ≡ length seen
-without_shorter n [] i = let z : ◌≡◌ {A = ℕ} 0 1 = cc in absurd (omega arith)
+without_shorter n [] i = absurd cc
 without_shorter n (v ∷ vs) i = at (eqb v n) refl (without_shorter n vs)
   where
     at : (b : Bool) → eqb v n ≡ b → (is_in n vs ≡ true → suc (length (without n vs)) ≡ length vs) → suc (length (without n (v ∷ vs))) ≡ length (v ∷ vs)

@@ -32,8 +32,8 @@ idle_row z n clock u h e =
     record {
       fits = tt;
       guards = λ lt. length-replicate h 0 ∙ e lt;
-      taking = λ i k f. let y : ◌≡◌ {A = ℕ} 0 1 = cc in absurd (omega arith);
-      removing = λ i k f. let y : ◌≡◌ {A = ℕ} 0 1 = cc in absurd (omega arith);
+      taking = λ i k f. absurd cc;
+      removing = λ i k f. absurd cc;
       listed = λ k pos. rw (same_all n k Free) refl;
       real = tt;
       dates = tt;
@@ -57,7 +57,7 @@ first_placed z m range s new = from_parts (first_tables z) m frame roots (λ u. 
         record {
           none = same_all (z.nodes + 1) 0 Free;
           rooted = λ r lt pos. let e = new_blank m s new r in absurd (omega arith);
-          published = λ n r e. let f = same_all {A = NodeState} (z.nodes + 1) n Free in let y : ◌≡◌ {A = ℕ} 0 1 = cc in absurd (omega arith);
+          published = λ n r e. let f = same_all {A = NodeState} (z.nodes + 1) n Free in absurd cc;
         }
 
     row : (u : ℕ) → (u < z.threads) ⊎ (z.threads ≤ u) → Row z (replicate (z.nodes + 1) Free) m.clock u (thread_of (first_tables z) u)

@@ -54,10 +54,10 @@ plain_at (other_unlock2 v) = true
 plain_at other_unlock3 = true
 
 pub plain_publish : (p : Point) (r n : ℕ) → plain_at p ≡ true → p ≡ publish1 r n → ⊥
-plain_publish p r n e f = let g : false ≡ true = rw f at e in let z : ◌≡◌ {A = ℕ} 0 1 = cc in omega arith
+plain_publish p r n e f = let g : false ≡ true = rw f at e in absurd cc
 
 pub plain_remove : (p : Point) (r n : ℕ) → plain_at p ≡ true → p ≡ remove3 r n → ⊥
-plain_remove p r n e f = let g : false ≡ true = rw f at e in let z : ◌≡◌ {A = ℕ} 0 1 = cc in omega arith
+plain_remove p r n e f = let g : false ≡ true = rw f at e in absurd cc
 
 -- no thread but t holds the node
 pub record Own (t : ℕ) (z : NodeState) : Type 0 where
@@ -76,8 +76,8 @@ others_own t z z' a b =
 own_free : (t : ℕ) → Own t Free
 own_free t =
     record {
-      taken = λ u ne e. let z : ◌≡◌ {A = ℕ} 0 1 = cc in omega arith;
-      removed = λ u ne e. let z : ◌≡◌ {A = ℕ} 0 1 = cc in omega arith;
+      taken = λ u ne e. absurd cc;
+      removed = λ u ne e. absurd cc;
       retired = λ u ne. refl;
     }
 
@@ -85,22 +85,22 @@ own_taken : (t : ℕ) → Own t (Taken t)
 own_taken t =
     record {
       taken = λ u ne e. ne (cc);
-      removed = λ u ne e. let z : ◌≡◌ {A = ℕ} 0 1 = cc in omega arith;
+      removed = λ u ne e. absurd cc;
       retired = λ u ne. refl;
     }
 
 own_published : (t r : ℕ) → Own t (Published r)
 own_published t r =
     record {
-      taken = λ u ne e. let z : ◌≡◌ {A = ℕ} 0 1 = cc in omega arith;
-      removed = λ u ne e. let z : ◌≡◌ {A = ℕ} 0 1 = cc in omega arith;
+      taken = λ u ne e. absurd cc;
+      removed = λ u ne e. absurd cc;
       retired = λ u ne. refl;
     }
 
 own_removed : (t : ℕ) → Own t (Removed t)
 own_removed t =
     record {
-      taken = λ u ne e. let z : ◌≡◌ {A = ℕ} 0 1 = cc in omega arith;
+      taken = λ u ne e. absurd cc;
       removed = λ u ne e. ne (cc);
       retired = λ u ne. refl;
     }
@@ -108,8 +108,8 @@ own_removed t =
 own_retired : (t : ℕ) → Own t (RetiredBy t)
 own_retired t =
     record {
-      taken = λ u ne e. let z : ◌≡◌ {A = ℕ} 0 1 = cc in omega arith;
-      removed = λ u ne e. let z : ◌≡◌ {A = ℕ} 0 1 = cc in omega arith;
+      taken = λ u ne e. absurd cc;
+      removed = λ u ne e. absurd cc;
       retired = λ u ne. ne_eqb t u (λ e. ne (sym e));
     }
 
@@ -153,16 +153,16 @@ node_moves x m m' t n was z pt lt p st ln is own own' off off' q fits taking rem
 -- A publish begins, and ends well or not.
 
 free_unpublished : Unpublished Free
-free_unpublished r e = let z : ◌≡◌ {A = ℕ} 0 1 = cc in omega arith
+free_unpublished r e = absurd cc
 
 taken_unpublished : (t : ℕ) → Unpublished (Taken t)
-taken_unpublished t r e = let z : ◌≡◌ {A = ℕ} 0 1 = cc in omega arith
+taken_unpublished t r e = absurd cc
 
 removed_unpublished : (t : ℕ) → Unpublished (Removed t)
-removed_unpublished t r e = let z : ◌≡◌ {A = ℕ} 0 1 = cc in omega arith
+removed_unpublished t r e = absurd cc
 
 retired_unpublished : (t : ℕ) → Unpublished (RetiredBy t)
-retired_unpublished t r e = let z : ◌≡◌ {A = ℕ} 0 1 = cc in omega arith
+retired_unpublished t r e = absurd cc
 
 module _ (x : Tables) (m : Meaning) (t r n : ℕ) (lt : t < x.settings.threads) (p : Placed x m) (pos : 0 < n) (lr : r < x.settings.roots) where
   pub publish_begins : n ≤ x.settings.nodes → node_of x n ≡ Free → Placed (changed x t (moved_to (publish1 r n) (thread_of x t)) (set x.nodes n (Taken t))) m
@@ -172,7 +172,7 @@ module _ (x : Tables) (m : Meaning) (t r n : ℕ) (lt : t < x.settings.threads) 
       (roots_off x.nodes n (Taken t) ln x.settings.roots m pos (rw is free_unpublished) (taken_unpublished t) (roots_of p))
       (lr, pos, le)
       (λ i k e. let f : k ≡ n = cc in rw f (at_same x.nodes n (Taken t) ln))
-      (λ i k e. let z : ◌≡◌ {A = ℕ} 0 1 = cc in absurd (omega arith))
+      (λ i k e. absurd cc)
 
   -- the root was occupied
   pub publish_fails : n ≤ x.settings.nodes → node_of x n ≡ Taken t → Placed (changed x t (moved_to idle (thread_of x t)) (set x.nodes n Free)) m
@@ -181,8 +181,8 @@ module _ (x : Tables) (m : Meaning) (t r n : ℕ) (lt : t < x.settings.threads) 
       node_moves x m m t n (Taken t) Free idle lt p (steady_same p) ln is (own_taken t) (own_free t) refl refl
       (roots_off x.nodes n Free ln x.settings.roots m pos (rw is (taken_unpublished t)) free_unpublished (roots_of p))
       tt
-      (λ i k e. let z : ◌≡◌ {A = ℕ} 0 1 = cc in absurd (omega arith))
-      (λ i k e. let z : ◌≡◌ {A = ℕ} 0 1 = cc in absurd (omega arith))
+      (λ i k e. absurd cc)
+      (λ i k e. absurd cc)
 
   pub publish_ends : (m' : Meaning) → Steady m m' → r < length m.cells → cell m r ≡ 0 → Put r n m m' → n ≤ x.settings.nodes → node_of x n ≡ Taken t
       → Placed (changed x t (moved_to idle (thread_of x t)) (set x.nodes n (Published r))) m'
@@ -191,18 +191,18 @@ module _ (x : Tables) (m : Meaning) (t r n : ℕ) (lt : t < x.settings.threads) 
       node_moves x m m' t n (Taken t) (Published r) idle lt p st ln is (own_taken t) (own_published t r) refl refl
       (roots_put x.nodes n ln x.settings.roots m m' r pos lr inside none (rw is (taken_unpublished t)) put (roots_of p))
       tt
-      (λ i k e. let z : ◌≡◌ {A = ℕ} 0 1 = cc in absurd (omega arith))
-      (λ i k e. let z : ◌≡◌ {A = ℕ} 0 1 = cc in absurd (omega arith))
+      (λ i k e. absurd cc)
+      (λ i k e. absurd cc)
 
   -- a remove takes the node from the root
   pub remove_takes : (m' : Meaning) → Steady m m' → r < length m.cells → cell m r ≡ n → Put r 0 m m' → Placed (changed x t (moved_to (remove3 r n) (thread_of x t)) (set x.nodes n (Removed t))) m'
   remove_takes m' st inside here put =
       let is : node_of x n ≡ Published r = rw here at (p.rooted r lr (rw here pos)) in
-      let ln : n < length x.nodes = in_range_lem x.nodes n (λ e. let z : ◌≡◌ {A = ℕ} 0 1 = cc in omega arith) in
+      let ln : n < length x.nodes = in_range_lem x.nodes n (λ e. absurd cc) in
       node_moves x m m' t n (Published r) (Removed t) (remove3 r n) lt p st ln is (own_published t r) (own_removed t) refl refl
       (roots_taken x.nodes n (Removed t) ln x.settings.roots m m' r pos lr inside here (removed_unpublished t) put (roots_of p))
       (lr, pos, let e = p.shape.nodes in omega arith)
-      (λ i k e. let z : ◌≡◌ {A = ℕ} 0 1 = cc in absurd (omega arith))
+      (λ i k e. absurd cc)
       (λ i k e. let f : k ≡ n = cc in rw f (at_same x.nodes n (Removed t) ln))
 
 -- A removed node goes into the list of its thread.
@@ -219,8 +219,8 @@ retires x m t n d lt p pos le past is =
     (record {
       fits = tt;
       guards = p.shape.guards t;
-      taking = λ i k e. let z : ◌≡◌ {A = ℕ} 0 1 = cc in absurd (omega arith);
-      removing = λ i k e. let z : ◌≡◌ {A = ℕ} 0 1 = cc in absurd (omega arith);
+      taking = λ i k e. absurd cc;
+      removing = λ i k e. absurd cc;
       listed = λ k pk. listed k pk (cases_eq k n);
       real = All-push (λ (e : Retired). 0 < e.node) (thread_of x t).retired (entry n d) (p.real t) pos;
       dates = All-push (λ (e : Retired). e.date ≤ m.clock) (thread_of x t).retired (entry n d) (p.dates t) past;
@@ -249,8 +249,8 @@ sweeps x m t b now seen lt p =
     (record {
       fits = tt;
       guards = p.shape.guards t;
-      taking = λ i k e. let z : ◌≡◌ {A = ℕ} 0 1 = cc in absurd (omega arith);
-      removing = λ i k e. let z : ◌≡◌ {A = ℕ} 0 1 = cc in absurd (omega arith);
+      taking = λ i k e. absurd cc;
+      removing = λ i k e. absurd cc;
       listed = λ k pk. listed k pk (state k);
       real = all_kept_by (keeps b now seen) (λ (e : Retired). 0 < e.node) (thread_of x t).retired (p.real t);
       dates = all_kept_by (keeps b now seen) (λ (e : Retired). e.date ≤ m.clock) (thread_of x t).retired (p.dates t);

@@ -94,7 +94,7 @@ roots_put ns n lt roots m m' r pos lr inside is un put q =
         let g = q.published k i w in (
           g.0,
           put.elsewhere i
-              (λ h. let j : cell m r ≡ k = rw h at g.1 in let o : k ≡ 0 = cc in let a : get_or ns 0 Free ≡ Published i = rw o at w in let b = q.none in let c : ◌≡◌ {A = ℕ} 0 1 = cc in omega arith)
+              (λ h. let j : cell m r ≡ k = rw h at g.1 in let o : k ≡ 0 = cc in let a : get_or ns 0 Free ≡ Published i = rw o at w in let b = q.none in absurd cc)
               ∙ g.1,
         )
 

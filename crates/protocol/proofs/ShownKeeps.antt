@@ -120,7 +120,7 @@ shown_begin b h x u o y z k p e shape lt f s =
 
 -- a remove that was done had found a node that there is
 found_inside : (x : Tables) (m m' : Meaning) (u r n : ℕ) (k : Told) → Placed x m → FitsAt x.settings (remove2 r n) → Meets u (request (here x m u) (remove2 r n)) m m' k → done_told k ≡ true → n < length x.nodes
-found_inside x m m' u r n k p f w e = in_range_lem x.nodes n (λ g. let h = remove_was x m m' u r n k p f w e in let z : ◌≡◌ {A = ℕ} 0 1 = cc in omega arith)
+found_inside x m m' u r n k p f w e = in_range_lem x.nodes n (λ g. let h = remove_was x m m' u r n k p f w e in absurd cc)
 
 shown_step : (h : List Event) (x : Tables) (m m' : Meaning) (u : ℕ) (k : Told) → Placed x m → u < x.settings.threads → Meets u (request (here x m u) (thread_of x u).point) m m' k
     → Shown m.bound h x → Shown m.bound (event (Step u) (after (here x m u) (thread_of x u).point k).answer k ∷ h) (counted (stepped x u (after (here x m u) (thread_of x u).point k)))
@@ -183,7 +183,7 @@ untouched_refused h c e k v =
     }
 
 some_none : (o : Option Tables) (x : Tables) → o ≡ Some x → o ≡ None → ⊥
-some_none o x e f = let z : ◌≡◌ {A = ℕ} 0 1 = cc in omega arith
+some_none o x e f = absurd cc
 
 untouched : (h : List Event) (s s' : State) {c : Call} {a : Answer} {k : Told} → Trans s s' c a k → s.tables ≡ None → s'.tables ≡ None → Untouched h → Untouched (event c a k ∷ h)
 untouched h s s' {c} {a} {k} (refuses {e = e} fails same) f g v = untouched_refused h c e k v

@@ -28,7 +28,7 @@ holds_on p p' k (slow w e f) = slow w e f
 holds_on p p' k (last e) = absurd (not_last p k e)
 
 free_outside : {own : ℕ} (p : Point) → eqb (side p) 2 ≡ false → Holds own p false → ⊥
-free_outside p k (slow w e f) = let x : ◌≡◌ {A = ℕ} 0 1 = cc in omega arith
+free_outside p k (slow w e f) = absurd cc
 free_outside p k (last e) = not_last p k e
 
 free_fast : {own : ℕ} (p : Point) {i : Bool} → eqb (side p) 2 ≡ false → own ≡ 1 → Holds own p i → ⊥
@@ -115,7 +115,7 @@ module _ {z : Settings} {L f1 u : ℕ} where
 
   step4 : {i : Bool} {ws : List Write} → (v : ℕ) → ws ≡ [] → At z L f1 u (other_lock4 v) i ws → Other z L f1 u (other_lock5 v) i ws
   step4 v e (on_node x) = absurd x
-  step4 v e (at4waits w d) = let x : ◌≡◌ {A = ℕ} 0 1 = cc in absurd (omega arith)
+  step4 v e (at4waits w d) = absurd cc
   step4 v e (at4 w l f) = raised w l raised5 refl refl f
 
   step5 : {i : Bool} {ws : List Write} → (v : ℕ) {p' : Point} → RaisedAt v p' → At z L f1 u (other_lock5 v) i ws → Other z L f1 u p' i ws

@@ -42,7 +42,7 @@ turns_ticks z a a' s still h = on_calm still h s.lock s.flag0 s.flag1 s.writes
 
 module _ {z : Settings} {a a' : LockState} (t : ℕ) (l : LandsOne z t a.sight a'.sight) (still : Still a a') (h : Turns z a) where
   none : a.sight.writes t ≡ [] → ⊥
-  none e = let c : ◌≡◌ {A = List Write} [] (l.write ∷ l.rest) = sym e ∙ l.was in let x : ◌≡◌ {A = ℕ} 0 1 = cc in omega arith
+  none e = let c : ◌≡◌ {A = List Write} [] (l.write ∷ l.rest) = sym e ∙ l.was in absurd cc
 
   small_left : (u : ℕ) → 1 ≤ u → Small a'.count (a'.sight.writes u)
   small_left u pos = at (cases_eq u t)

@@ -12,12 +12,12 @@ use Rattle.protocol.proofs.ShownKeeps.{explains_reached}
 
 -- what is found passes the test
 pub first_passes : (n : ℕ) (test : ℕ → Bool) (t : ℕ) → first_below n test ≡ Some t → test t ≡ true
-first_passes zero test t e = let y : ◌≡◌ {A = ℕ} 0 1 = cc in absurd (omega arith)
+first_passes zero test t e = absurd cc
 first_passes (suc n) test t e = by (first_below n test) (test n) (first_passes n test t) refl e
   where
     by : (o : Option ℕ) (b : Bool) → (o ≡ Some t → test t ≡ true) → test n ≡ b → option_or o (cond b (Some n) None) ≡ Some t → test t ≡ true
     by None true earlier is f = let same : n ≡ t = cc in rw same at is
-    by None false earlier is f = let y : ◌≡◌ {A = ℕ} 0 1 = cc in absurd (omega arith)
+    by None false earlier is f = absurd cc
     by (Some u) b earlier is f = earlier f
 
 -- one is found where one passes
@@ -40,7 +40,7 @@ names_inside h s w t = go s.tables refl
     go None n =
         let before = (explains_reached h s w).before n in
         rw before.settings
-        ((λ e. let y : ◌≡◌ {A = ℕ} 0 1 = cc in absurd (omega arith)), (λ e. absurd (true≢false (sym e ∙ before.inside t))))
+        ((λ e. absurd cc), (λ e. absurd (true≢false (sym e ∙ before.inside t))))
     go (Some x) n = rw (sym shows.settings) (first_passes threads (inside_in h) t, found)
       where
         shows : Shows s.memory.bound h x

@@ -1,19 +1,11 @@
-use Rattle.std.proofs.Common.{◌<◌, false, map, refl, arith}
+use Rattle.std.proofs.Common.{◌<◌, false, map, arith}
 use Rattle.held.specs.Held.{held}
 use Rattle.held.specs.SoundLaw.{held_sound}
 use Rattle.held.specs.StoreBuffer.{row}
 use Rattle.held.proofs.HeldSound.{facts, held_count}
-use Rattle.memory.proofs.Passing.{exchange_passes, exchange_waits}
+use Rattle.memory.proofs.Passing.{exchange_passes}
 use Rattle.memory.proofs.Sharing.{exchanged_lands, exchange_sound}
 use Rattle.held.proofs.calls.HeldMemory.exchange.Goals as goal
-
-pub returns-then-len-gt0 : goal.returns-then-len-gt0
-returns-then-len-gt0 c =
-    let h = c.args.self.now in
-    let lt : c.args.thread < 8 = c.in_ok-check_range.ensures.0 in
-    let waits = held_count h c.args.thread c.index-self-thread.result c.len.result lt c.len.ensures in
-    let fails = exchange_waits c.args.thread c.args.cell (held h) lt c.in_ok-check_range.ensures.1 (omega arith) in
-    record { call = record { fails = fails; same = refl }; exact = record { fails = fails; same = refl } }
 
 pub invariant_of-self : goal.invariant_of-self
 invariant_of-self c =
