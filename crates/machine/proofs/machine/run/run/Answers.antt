@@ -1,5 +1,5 @@
 use Rattle.std.proofs.Common.{arith, rules}
-use Rattle.protocol.proofs.CallsKept.{runs_none, runs_more, runs_all}
+use Rattle.protocol.proofs.CallsKept.{runs_none, runs_more}
 use Rattle.machine.proofs.machine.run.run.Goals as goal
 
 pub loop-call-init : goal.loop-call-init
@@ -11,6 +11,3 @@ loop-call-preserved g c = (
   omega arith,
   runs_more _ _ _ _ _ _ _ _ _ c.loop-call-test.true (search rules) c.push_reserved.ensures.items c.loop-call.invariant.2 c.call.ensures,
 )
-
-pub returns : goal.returns
-returns g c = runs_all _ _ c.loop-call.call-index _ _ c.loop-call-test.false c.loop-call.invariant.2

@@ -3,23 +3,13 @@ use Rattle.std.specs.Option.{ok_or}
 use Rattle.protocol.specs.declared.answer.Refusal.{Refusal}
 use Rattle.protocol.specs.declared.answer.Refusal.TheVariants.{BadOperation}
 use Rattle.protocol.specs.declared.operation.Operation.{Operation}
-use Rattle.protocol.specs.Begin.{named}
-use Rattle.protocol.specs.Transition.{begin_asks}
-use Rattle.tables.specs.State.{running, tables_of}
-use Rattle.tables.proofs.Admission.{admits_none, calls_used_up, said_no, said_yes}
-use Rattle.tables.proofs.BeginMoves.{begin_no_thread, busy_refused, unnamed_refused, unfit_refused, unready_refused, full_refused, wrong_side_refused, begin_passes}
+use Rattle.tables.specs.State.{running}
+use Rattle.tables.proofs.Admission.{admits_none, said_no, said_yes}
+use Rattle.tables.proofs.BeginMoves.{busy_refused, unnamed_refused, unfit_refused, unready_refused, full_refused, wrong_side_refused, begin_passes}
 use Rattle.tables.proofs.tables.Tables.admitted.Goals as goal
 
 some_from : (o : Option Operation) (p : Operation) (e : Refusal) → Ok p ≡ ok_or o e → o ≡ Some p
 some_from o p e h = grind (arith, h)
-
-pub returns-in_err-calls_left : goal.returns-in_err-calls_left
-returns-in_err-calls_left c m =
-    admits_none (running c.args.self.now m) c.args.thread c.args.number c.args.a c.args.b _ _ c.from_residual.ensures.1 (calls_used_up (tables_of c.args.self.now) (begin_asks c.args.thread (named c.args.number c.args.a c.args.b)) _ c.in_err-calls_left.ensures)
-
-pub returns-in_err-row : goal.returns-in_err-row
-returns-in_err-row c m =
-    admits_none (running c.args.self.now m) c.args.thread c.args.number c.args.a c.args.b _ _ c.from_residual-in_err-row.ensures.1 (begin_no_thread (tables_of c.args.self.now) m c.args.thread c.args.number c.args.a c.args.b _ c.in_ok-calls_left.ensures c.in_err-row.ensures)
 
 pub returns-in_err-check : goal.returns-in_err-check
 returns-in_err-check c m =
