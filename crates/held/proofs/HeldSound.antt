@@ -9,8 +9,8 @@ use Rattle.held.specs.declared.store_buffer.StoreBuffer.{StoreBuffer}
 use Rattle.memory.specs.declared.refusal.Refusal.{Refusal}
 use Rattle.memory.specs.declared.write.Write.{Write}
 use Rattle.memory.specs.Calls.{Sound, Stores}
-use Rattle.memory.specs.declared.shared.Shared.{Shared}
-use Rattle.memory.specs.Shared.{shared_with, clock_of}
+use Rattle.memory.specs.declared.shared_cells.SharedCells.{SharedCells}
+use Rattle.memory.specs.SharedCells.{shared_with, clock_of}
 use Rattle.held.specs.Held.{held}
 use Rattle.memory.specs.Meaning.{Meaning, queue, cell, waiting_count, newest, value_or, loaded, with_cell, written, stored, landed}
 use Rattle.held.specs.Queues.{DatesRise, DatesPast, InCells}
@@ -21,7 +21,7 @@ use Rattle.memory.proofs.Passing.{store_passes, store_full}
 use Rattle.memory.proofs.Soundness.{stored_sound, landed_sound}
 
 -- What `Sound` says gives the ghost facts.
-pub facts : (s : Shared) (bs : List StoreBuffer)
+pub facts : (s : SharedCells) (bs : List StoreBuffer)
     → Sound (shared_with s false (map row bs))
     → record { threads : length bs ≡ 8; rises : DatesRise (map row bs); past : DatesPast (clock_of s) (map row bs); in_cells : InCells (map row bs) }
 facts s bs sound = record { threads = sym (length-map bs row) ∙ sound.threads; rises = rises; past = past; in_cells = in_cells }

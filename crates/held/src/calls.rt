@@ -12,7 +12,7 @@ use memory::due::date_due;
 use memory::memory::Memory;
 use memory::range::{check_range, check_thread};
 use memory::refusal::Refusal;
-use memory::shared::Shared;
+use memory::shared_cells::SharedCells;
 use memory::write::Write;
 
 impl Held {
@@ -21,7 +21,7 @@ impl Held {
         ensures { Made held false bound result }
     {
         Ok(Held {
-            shared: Shared::new(bound)?,
+            shared: SharedCells::new(bound)?,
             buffers: [StoreBuffer::new(); 8],
         })
     }

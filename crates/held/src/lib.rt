@@ -5,16 +5,16 @@ pub mod calls;
 mod store_buffer;
 
 ghost use Rattle.std.specs.Prelude.{◌≡◌, map, length};
-ghost use Rattle.memory.specs.Shared.{clock_of};
+ghost use Rattle.memory.specs.SharedCells.{clock_of};
 ghost use Rattle.held.specs.Queues.{DatesRise, DatesPast, InCells};
 ghost use Rattle.held.specs.StoreBuffer.{row};
 
 use crate::store_buffer::StoreBuffer;
-use memory::shared::Shared;
+use memory::shared_cells::SharedCells;
 
 #[derive(Clone, Copy)]
 pub struct Held {
-    shared: Shared,
+    shared: SharedCells,
     buffers: [StoreBuffer; 8],
     ghost threads: { length buffers ≡ 8 },
     ghost rises: { DatesRise (map row buffers) },

@@ -2,7 +2,7 @@
 use Rattle.std.specs.Prelude.{◌≡◌, ℕ, true, [], replicate}
 use Rattle.immediate.specs.declared.Immediate.{Immediate}
 use Rattle.memory.specs.Meaning.{Meaning, landed}
-use Rattle.memory.specs.Shared.{shared_with}
+use Rattle.memory.specs.SharedCells.{shared_with}
 
 -- nothing ever waits
 abbrev pub immediate : Immediate → Meaning

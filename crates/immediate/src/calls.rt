@@ -9,7 +9,7 @@ use crate::Immediate;
 use memory::memory::Memory;
 use memory::range::{check_range, check_thread};
 use memory::refusal::Refusal;
-use memory::shared::Shared;
+use memory::shared_cells::SharedCells;
 
 impl Immediate {
     // A new memory; refused unless the bound is 1 to 1,000.
@@ -17,7 +17,7 @@ impl Immediate {
         ensures { Made immediate true bound result }
     {
         Ok(Immediate {
-            shared: Shared::new(bound)?,
+            shared: SharedCells::new(bound)?,
         })
     }
 }

@@ -3,9 +3,9 @@
 
 pub mod calls;
 
-use memory::shared::Shared;
+use memory::shared_cells::SharedCells;
 
 #[derive(Clone, Copy)]
 pub struct Immediate {
-    shared: Shared,
+    shared: SharedCells,
 }

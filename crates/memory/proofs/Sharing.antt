@@ -7,7 +7,7 @@ use Rattle.memory.specs.Meaning.{Meaning, exchanged, due}
 use Rattle.memory.specs.Landings.{Lands}
 use Rattle.memory.specs.Checks.{check}
 use Rattle.memory.specs.Calls.{Sound, Stays, Exchanged, Ticks}
-use Rattle.memory.specs.Shared.{SharedTicks}
+use Rattle.memory.specs.SharedCells.{SharedTicks}
 use Rattle.memory.proofs.Passing.{passed_head, passed_tail}
 use Rattle.memory.proofs.Soundness.{exchanged_sound, ticked_sound}
 use Rattle.memory.proofs.Views.{lands_same}

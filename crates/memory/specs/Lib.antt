@@ -5,4 +5,4 @@ pub mod History
 pub mod Landings
 pub mod Meaning
 pub mod Number
-pub mod Shared
+pub mod SharedCells

@@ -7,5 +7,5 @@ pub mod newness;
 pub mod range;
 pub mod refusal;
 pub mod run;
-pub mod shared;
+pub mod shared_cells;
 pub mod write;

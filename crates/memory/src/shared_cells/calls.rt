@@ -2,20 +2,20 @@
 ghost use Rattle.std.specs.Prelude.{◌≡◌, slice_index};
 ghost use Rattle.memory.specs.Meaning.{with_cell};
 ghost use Rattle.memory.specs.Calls.{Stays, Exchanged};
-ghost use Rattle.memory.specs.Shared.{shared_with, clock_of, bound_of, cells_of, SharedMade, SharedTicks};
+ghost use Rattle.memory.specs.SharedCells.{shared_with, clock_of, bound_of, cells_of, SharedMade, SharedTicks};
 
 use crate::refusal::Refusal;
-use crate::shared::Shared;
+use crate::shared_cells::SharedCells;
 
-impl Shared {
+impl SharedCells {
     // The clock and each cell at 0; refused unless the bound is 1 to 1,000.
-    pub fn new(bound: u32) -> Result<Shared, Refusal>
+    pub fn new(bound: u32) -> Result<SharedCells, Refusal>
         ensures { SharedMade bound result }
     {
         if bound < 1 || bound > 1000 {
             return Err(Refusal::NotMade);
         }
-        Ok(Shared {
+        Ok(SharedCells {
             clock: 0,
             bound,
             cells: [0; 64],

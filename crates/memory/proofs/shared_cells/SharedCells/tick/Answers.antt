@@ -3,7 +3,7 @@ use Rattle.std.proofs.lemmas.Bool.{lt-ltb}
 use Rattle.memory.specs.declared.refusal.Refusal.TheVariants.{WriteDue, ClockAtEnd}
 use Rattle.memory.specs.Meaning.{ticked}
 use Rattle.memory.proofs.Passing.{both_pass}
-use Rattle.memory.proofs.shared.Shared.tick.Goals as goal
+use Rattle.memory.proofs.shared_cells.SharedCells.tick.Goals as goal
 
 pub returns : goal.returns
 unfolding ticked

@@ -5,7 +5,7 @@ ghost use Rattle.std.specs.Prelude.{◌≡◌, ◌≤◌, length};
 
 // The clock, the bound and the cells.
 #[derive(Clone, Copy)]
-pub struct Shared {
+pub struct SharedCells {
     clock: u32,
     bound: u32,
     cells: [u64; 64],

@@ -1,6 +1,6 @@
 -- What all threads share, and what its calls do. Assumes nothing.
 use Rattle.std.specs.Prelude.{◌≡◌, ℕ, Bool, not, List, [], ◌∷◌, replicate, Result, nat_lt}
-use Rattle.memory.specs.declared.shared.Shared.{Shared}
+use Rattle.memory.specs.declared.shared_cells.SharedCells.{SharedCells}
 use Rattle.memory.specs.declared.refusal.Refusal.{Refusal}
 use Rattle.memory.specs.declared.refusal.Refusal.TheVariants.{WriteDue, ClockAtEnd}
 use Rattle.memory.specs.declared.write.Write.{Write}
@@ -8,21 +8,21 @@ use Rattle.memory.specs.Meaning.{Meaning, ticked}
 use Rattle.memory.specs.Checks.{check}
 use Rattle.memory.specs.Calls.{Answers, Made}
 
-abbrev pub clock_of : Shared → ℕ
+abbrev pub clock_of : SharedCells → ℕ
 clock_of s = s.clock
 
-abbrev pub bound_of : Shared → ℕ
+abbrev pub bound_of : SharedCells → ℕ
 bound_of s = s.bound
 
-abbrev pub cells_of : Shared → List ℕ
+abbrev pub cells_of : SharedCells → List ℕ
 cells_of s = s.cells
 
 -- a memory that shares this, with these writes waiting in it
-abbrev pub shared_with : Shared → Bool → List (List Write) → Meaning
+abbrev pub shared_with : SharedCells → Bool → List (List Write) → Meaning
 shared_with s lands waiting = record { clock = s.clock; cells = s.cells; bound = s.bound; self_landing = lands; waiting = waiting }
 
 -- a memory that shares what was made, with nothing waiting, is a new one
-abbrev pub SharedMade : ℕ → Result Shared Refusal → Type 0
+abbrev pub SharedMade : ℕ → Result SharedCells Refusal → Type 0
 SharedMade bound r = (lands : Bool) → Made (λ s. shared_with s lands (replicate 8 [])) lands bound r
 
 -- the clock moves by one, unless it is at its end or a write is due

@@ -1,9 +1,9 @@
 use Rattle.std.proofs.Common.{◌≡◌, true, false, eqb, sym, refl, ◌∙◌}
 use Rattle.std.proofs.lemmas.Bool.{eq-eqb, ne_eqb}
 use Rattle.memory.specs.Meaning.{cell, exchanged}
-use Rattle.memory.specs.Shared.{shared_with}
+use Rattle.memory.specs.SharedCells.{shared_with}
 use Rattle.memory.proofs.Views.{exchanged_none}
-use Rattle.memory.proofs.shared.Shared.exchange.Goals as goal
+use Rattle.memory.proofs.shared_cells.SharedCells.exchange.Goals as goal
 
 pub returns-then-get-old : goal.returns-then-get-old
 returns-then-get-old c lands waiting =
