@@ -1,5 +1,5 @@
 -- Writes that have waited as long as the bound allows: of each thread the oldest decides. Assumes nothing.
-use Rattle.std.proofs.Common.{◌≡◌, ℕ, ◌+◌, ◌<◌, ◌≤◌, Bool, true, false, leb, ◌≢◌, ◌⊎◌, List, [], ◌∷◌, length, get_or, Some, None, Option, sym, refl, ap, ◌∙◌, inl, inr, arith}
+use Rattle.std.proofs.Common.{◌≡◌, ℕ, ◌+◌, ◌<◌, ◌≤◌, Bool, true, false, leb, ◌≢◌, ◌⊎◌, List, [], ◌∷◌, length, get_or, Some, None, Option, sym, refl, ◌∙◌, inl, inr, arith}
 use Rattle.std.specs.List.{AllByRecursion, list_any}
 use Rattle.std.specs.List.Sorted.{IsNonDecreasingBy}
 use Rattle.std.proofs.ByRecursion.{All-weaker}
@@ -52,10 +52,6 @@ due_none m e = record { rows = λ t. at t (cases_lt t (length m.waiting)) }
 abbrev pub date_due : Meaning → Option ℕ → Bool
 date_due m None = false
 date_due m (Some d) = leb (d + m.bound) m.clock
-
--- what was told of a thread's oldest date decides
-pub told_due : (m : Meaning) (told told' oldest : Option ℕ) (r : Bool) → told ≡ oldest → told ≡ told' → date_due m told' ≡ r → date_due m oldest ≡ r
-told_due m told told' oldest r e f d = ap (date_due m) (sym e ∙ f) ∙ d
 
 oldest_tells : (m : Meaning) (ws : List Write) → IsNonDecreasingBy date_of ws → list_any (is_due m) ws ≡ date_due m (date_of_first ws)
 oldest_tells m [] up = refl
