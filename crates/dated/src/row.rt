@@ -1,4 +1,5 @@
-// A row is the first `len` entries of a slice, oldest first.
+// A row is the first `len` entries of a slice, oldest first. Slice and length are two arguments, since the functions serve every slice;
+// `FixedRow` keeps the two together.
 ghost use Rattle.std.specs.Prelude.{◌≡◌, ℕ, ◌+◌, ◌-◌, ◌<◌, ◌≤◌, List, [], ◌∷◌, ◌++◌, length, take, filter, MatchOption, slice_set};
 ghost use Rattle.std.specs.List.Sorted.{IsNonDecreasingBy};
 ghost use Rattle.std.specs.List.{AllByRecursion};

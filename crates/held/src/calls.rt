@@ -74,6 +74,7 @@ impl Memory for Held {
         ensures exact { LandsOne Stays thread (held self.old) (held self.new) result }
     {
         check_thread(thread)?;
+        // as in `store`
         let buffers = &mut self.buffers;
         let Some(write) = buffers[thread].take_oldest() else {
             return Err(Refusal::NothingWaiting);

@@ -21,6 +21,7 @@ fn number(limit: u16, bytes: &[u8]) -> Option<u16>
             return None;
         }
     }
+    // nothing is cut off, which is proved; `try_from` would have a case that never comes
     Some(value as u16)
 }
 

@@ -50,6 +50,7 @@ const ORDERS: [[Call; 4]; 6] = [
 // In how many orders both loads answer 0.
 pub(crate) fn both_zero_orders(heap: Global, kind: Kind) -> Result<usize, Failure> {
     let mut both = 0usize;
+    // a loop, since a run can fail, and a closure of `filter` cannot hand the failure on
     for order in ORDERS {
         let answers = run_on(heap, kind, &order)?;
         let zeros = answers

@@ -10,6 +10,7 @@ pub enum Call {
     },
     Begin {
         thread: usize,
+        // the numbers as a line of a listing has them; no struct, since only `begin` takes them, and takes them apart at once
         operation: usize,
         a: usize,
         b: usize,

@@ -8,6 +8,7 @@ use memory::memory::Memory;
 fn drain<M: Memory>(memory: &mut M)
     ensures { Drains (M.meaning memory.old) (M.meaning memory.new) }
 {
+    // loops over the threads' numbers, since a proof knows nothing of what an iterator's closure has changed
     for thread in 0..8 {
         while memory.waiting(thread) > 0 {
             // accepted, since a write waits

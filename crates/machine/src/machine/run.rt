@@ -50,6 +50,7 @@ pub fn run<M: Memory>(heap: Global, memory: M, calls: &[Call]) -> Result<Complet
         return Err(NoRoom { memory });
     };
     let mut machine = Machine::new(memory);
+    // a loop, as in `memory::run`, since a proof knows nothing of what an iterator's closure has changed
     for call in calls {
         answers.push_reserved(machine.call(*call));
     }

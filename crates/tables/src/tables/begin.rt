@@ -18,7 +18,8 @@ use protocol::node::NodeState;
 use protocol::operation::Operation;
 use protocol::settings::Settings;
 
-// The operation of this number; none where there is none, or where an unused argument is not 0.
+// The operation of this number; none where there is none, or where an unused argument is not 0. A function and no `TryFrom`, since a tuple of
+// three numbers would not say which is which.
 fn named(number: usize, a: usize, b: usize) -> Option<Operation>
     ensures { result ≡ named number a b }
 {

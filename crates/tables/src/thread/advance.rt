@@ -33,8 +33,8 @@ impl Thread {
         answer
     }
 
-    // One match on the operation, its step and what the memory told. The last step of each operation stands for every further
-    // number. Nodes are `as` u64 for the memory and `as` usize in the tables, since neither has a From to the other.
+    // One match on the operation, its step and what the memory told, by a rule of this project, as in `request`. The last step of each
+    // operation stands for every further number. Nodes are `as` u64 for the memory and `as` usize in the tables, since neither has a From to the other.
     pub(crate) fn advance(
         &mut self,
         context: &Context,

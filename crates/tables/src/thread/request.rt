@@ -12,7 +12,8 @@ use protocol::operation::Operation;
 use protocol::request::Request;
 
 impl Thread {
-    // The last step of each operation stands for every further number.
+    // One match, by a rule of this project, so that its cases can be read against the table of operations. The last step of each operation
+    // stands for every further number.
     pub(crate) fn request(&self, context: &Context) -> Request
         requires { fitting context.now.layout.settings self.now ≡ true }
         ensures { (ns : List NodeState) → request_of result ≡ request (here_at context.now self.now ns) (at self.now) }
