@@ -1,4 +1,4 @@
--- From what the shared part promises to what a memory promises of the same call. Assumes nothing.
+-- From what the cells that threads share promise to what a memory promises of the same call. Assumes nothing.
 use Rattle.std.proofs.Common.{◌≡◌, ℕ, Bool, true, false, not, ◌||◌, ltb, [], ◌∷◌, Ok, Err, Result, ◌<◌, sym, ap, subst, ◌∙◌}
 use Rattle.std.proofs.lemmas.Bool.{true≢false, ltb-true}
 use Rattle.memory.specs.declared.refusal.Refusal.{Refusal}

@@ -1,4 +1,4 @@
-use Rattle.std.proofs.Common.{not, refl, ap}
+use Rattle.std.proofs.Common.{◌≡◌, false, not, refl, ap, arith, rules}
 use Rattle.std.proofs.lemmas.Bool.{lt-ltb}
 use Rattle.memory.specs.declared.refusal.Refusal.TheVariants.{WriteDue, ClockAtEnd}
 use Rattle.memory.specs.Meaning.{ticked}
@@ -8,4 +8,5 @@ use Rattle.memory.proofs.shared_cells.SharedCells.tick.Goals as goal
 pub returns : goal.returns
 unfolding ticked
 returns c lands waiting =
-    record { passes = both_pass ClockAtEnd WriteDue (lt-ltb c.args.self.now.clock 1000000 c.if-self-ge1000000.false) (ap not c.if-write_due.false); does = refl }
+    let none_due : c.args.write_due ≡ false = search rules in
+    record { passes = both_pass ClockAtEnd WriteDue (lt-ltb c.args.self.now.clock 1000000 (omega arith)) (ap not none_due); does = refl }
