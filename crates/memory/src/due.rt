@@ -9,9 +9,7 @@ use crate::memory::Memory;
 pub fn date_due(date: Option<u32>, bound: u32, clock: u32) -> bool
     ensures { result ≡ option_map_or (λ d. nat_le (d + bound) clock) date false }
 {
-    date.map_or(false, |date| {
-        u64::from(date) + u64::from(bound) <= u64::from(clock)
-    })
+    date.is_some_and(|date| u64::from(date) + u64::from(bound) <= u64::from(clock))
 }
 
 // Whether some write has. Dates never fall along a thread's writes, so its oldest decides.

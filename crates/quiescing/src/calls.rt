@@ -9,6 +9,7 @@ use crate::drain::quiesce;
 use crate::{Quiescing, Unmade};
 use memory::memory::Memory;
 use memory::newness::is_new;
+use memory::range::check_limit;
 use memory::refusal::Refusal;
 
 impl<M: Memory> Quiescing<M> {
@@ -16,7 +17,7 @@ impl<M: Memory> Quiescing<M> {
     pub fn new(mut below: M, limit: u32) -> Result<Quiescing<M>, Unmade<M>>
         ensures { LayerMade M.Memory.meaning below limit result }
     {
-        if !(1..=1000).contains(&limit) || !is_new(&mut below) {
+        if check_limit(limit).is_err() || !is_new(&mut below) {
             return Err(Unmade {
                 refusal: Refusal::NotMade,
                 below,

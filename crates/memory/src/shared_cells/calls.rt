@@ -4,6 +4,7 @@ ghost use Rattle.memory.specs.Meaning.{with_cell};
 ghost use Rattle.memory.specs.Calls.{Stays, Exchanged};
 ghost use Rattle.memory.specs.SharedCells.{shared_with, clock_of, bound_of, cells_of, SharedMade, SharedTicks};
 
+use crate::range::check_limit;
 use crate::refusal::Refusal;
 use crate::shared_cells::SharedCells;
 
@@ -12,9 +13,7 @@ impl SharedCells {
     pub fn new(bound: u32) -> Result<SharedCells, Refusal>
         ensures { SharedMade bound result }
     {
-        if bound < 1 || bound > 1000 {
-            return Err(Refusal::NotMade);
-        }
+        check_limit(bound)?;
         Ok(SharedCells {
             clock: 0,
             bound,
