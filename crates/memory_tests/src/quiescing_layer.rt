@@ -9,7 +9,7 @@ use std::test::Fail;
 
 // A layer, or the refusal alone.
 fn layer<M: Memory + Drop>(below: M, limit: u32) -> Result<Quiescing<M>, Refusal> {
-    Quiescing::new(below, limit).map_err(|unmade| unmade.refusal)
+    Ok(Quiescing::new(below, limit)?)
 }
 
 #[test]

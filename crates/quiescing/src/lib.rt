@@ -4,7 +4,7 @@
 pub mod calls;
 mod drain;
 
-ghost use Rattle.std.specs.Prelude.{◌≤◌};
+ghost use Rattle.std.specs.Prelude.{◌≡◌, ◌≤◌};
 
 use memory::refusal::Refusal;
 
@@ -21,4 +21,12 @@ pub struct Quiescing<M> {
 pub struct Unmade<M> {
     pub refusal: Refusal,
     pub below: M,
+}
+
+impl<M: Drop> From<Unmade<M>> for Refusal {
+    ghost from_gives = { λ unmade refusal. refusal ≡ unmade.refusal };
+
+    fn from(unmade: Unmade<M>) -> Refusal {
+        unmade.refusal
+    }
 }
