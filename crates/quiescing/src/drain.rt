@@ -10,10 +10,8 @@ fn drain<M: Memory>(memory: &mut M)
 {
     // loops over the threads' numbers, since a proof knows nothing of what an iterator's closure has changed
     for thread in 0..8 {
-        while memory.waiting(thread) > 0 {
-            // accepted, since a write waits
-            let _ = memory.land(thread);
-        }
+        // a landing is refused once no write waits
+        while memory.land(thread).is_ok() {}
     }
 }
 
