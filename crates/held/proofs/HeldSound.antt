@@ -12,7 +12,7 @@ use Rattle.memory.specs.Calls.{Sound, Stores}
 use Rattle.memory.specs.declared.shared_cells.SharedCells.{SharedCells}
 use Rattle.memory.specs.SharedCells.{shared_with, clock_of}
 use Rattle.held.specs.Held.{held}
-use Rattle.memory.specs.Meaning.{Meaning, queue, cell, waiting_count, newest, value_or, loaded, with_cell, written, stored, landed}
+use Rattle.memory.specs.Meaning.{Meaning, queue, cell, newest, value_or, loaded, with_cell, written, stored, landed}
 use Rattle.held.specs.Queues.{DatesRise, DatesPast, InCells}
 use Rattle.held.specs.StoreBuffer.{row, Pushes}
 use Rattle.held.specs.SoundLaw.{nil, held_sound}
@@ -39,10 +39,6 @@ facts s bs sound = record { threads = sym (length-map bs row) ∙ sound.threads;
 pub held_queue : (h : Held) (t : ℕ) (d : StoreBuffer) → t < 8 → queue (held h) t ≡ row (slice_index_or h.buffers t d)
 held_queue h t d lt = queue_at h.buffers t d (rw h.threads lt)
 
--- and how many, by what the buffer answered
-pub held_count : (h : Held) (t : ℕ) (d : StoreBuffer) (n : ℕ) → t < 8 → n ≡ length (row (slice_index_or h.buffers t d)) → waiting_count (held h) t ≡ n
-held_count h t d n lt e = ap length (held_queue h t d lt) ∙ sym e
-
 -- A store and a landing, as the code makes them: the buffer of t is taken out, changed to b and put back.
 pub held_stores : (h : Held) (t c v : ℕ) (d b : StoreBuffer)
     → t < 8 → row b ≡ row (slice_index_or h.buffers t d) ++ written (held h) c v ∷ [] → with_rows (held h) (slice_set h.buffers t b) ≡ stored t c v (held h)
@@ -59,7 +55,7 @@ stores_sound h t c v d b lt inside few e = subst Sound (sym (held_stores h t c v
 -- The buffer of t as the code leaves it after a refusal: its row is the same, whatever stands behind it.
 pub held_same : (h : Held) (t : ℕ) (d b : StoreBuffer)
     → t < 8 → row b ≡ row (slice_index_or h.buffers t d) → with_rows (held h) (slice_set h.buffers t b) ≡ held h
-held_same h t d b lt e = same_rows t (held h) h.buffers d b refl (rw h.threads lt) e
+held_same h t d b lt e = same_rows t (held h) h.buffers d b refl e
 
 pub same_sound : (h : Held) (t : ℕ) (d b : StoreBuffer)
     → t < 8 → row b ≡ row (slice_index_or h.buffers t d) → Sound (with_rows (held h) (slice_set h.buffers t b))

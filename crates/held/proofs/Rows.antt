@@ -3,7 +3,8 @@ use Rattle.std.specs.Prelude.{◌≡◌, ℕ, ◌<◌, Bool, true, false, cond, 
 use Rattle.std.proofs.Common.{sym, ap, ◌∙◌}
 use Rattle.std.specs.Option.{option_map, option_or}
 use Rattle.std.specs.List.{find}
-use Rattle.std.proofs.lemmas.List.{get_or-map, map-set, set-get_or, reverse-append}
+use Rattle.std.proofs.lemmas.List.{get_or-map, map-set, reverse-append}
+use Rattle.std.proofs.Math.Seq.{map-set_same}
 use Rattle.std.proofs.lemmas.List.Folds.{find-append}
 use Rattle.held.specs.declared.store_buffer.StoreBuffer.{StoreBuffer}
 use Rattle.memory.specs.declared.write.Write.{Write}
@@ -51,9 +52,9 @@ push_stores t c v m bs d b is lt e =
 
 -- a buffer of t with the same row changes nothing
 pub same_rows : (t : ℕ) (m : Meaning) (bs : List StoreBuffer) (d b : StoreBuffer)
-    → m.waiting ≡ map row bs → t < length bs → row b ≡ row (slice_index_or bs t d) → with_rows m (slice_set bs t b) ≡ m
-same_rows t m bs d b is lt e =
-    ap (waits_with m m.cells) (map-set row bs t b ∙ ap (set (map row bs) t) (e ∙ sym (queue_at bs t d lt)) ∙ set-get_or (map row bs) t [] ∙ sym is)
+    → m.waiting ≡ map row bs → row b ≡ row (slice_index_or bs t d) → with_rows m (slice_set bs t b) ≡ m
+same_rows t m bs d b is e =
+    ap (waits_with m m.cells) (map-set_same row bs t b d e ∙ sym is)
 
 -- the oldest write taken out of the buffer of t and put into its cell is a landing
 pub take_lands : (t : ℕ) (m : Meaning) (bs : List StoreBuffer) (d b : StoreBuffer) (w : Write)

@@ -32,8 +32,9 @@ impl Held {
     {
         let bound = self.shared.bound();
         let clock = self.shared.clock();
-        let mut buffers = self.buffers.iter();
-        buffers.any(|buffer| date_due(buffer.oldest_date(), bound, clock))
+        self.buffers
+            .iter()
+            .any(|buffer| date_due(buffer.oldest_date(), bound, clock))
     }
 }
 
@@ -88,7 +89,7 @@ impl Memory for Held {
         ensures exact { Exchanges Stays thread cell old new (held self.old) (held self.new) result }
     {
         check_range(thread, cell)?;
-        if self.buffers[thread].len() > 0 {
+        if self.waiting(thread) > 0 {
             return Err(Refusal::WritesWaiting);
         }
         Ok(self.shared.exchange(cell, old, new))

@@ -2,7 +2,7 @@ use Rattle.std.proofs.Common.{◌<◌, false, map, arith}
 use Rattle.held.specs.Held.{held}
 use Rattle.held.specs.SoundLaw.{held_sound}
 use Rattle.held.specs.StoreBuffer.{row}
-use Rattle.held.proofs.HeldSound.{facts, held_count}
+use Rattle.held.proofs.HeldSound.{facts}
 use Rattle.memory.proofs.Passing.{exchange_passes}
 use Rattle.memory.proofs.Sharing.{exchanged_lands, exchange_sound}
 use Rattle.held.proofs.calls.HeldMemory.exchange.Goals as goal
@@ -17,7 +17,6 @@ pub returns : goal.returns
 returns c =
     let h = c.args.self.now in
     let lt : c.args.thread < 8 = c.in_ok-check_range.ensures.0 in
-    let waits = held_count h c.args.thread c.index-self-thread.result c.len.result lt c.len.ensures in
     let passes = exchange_passes c.args.thread c.args.cell (held h) lt c.in_ok-check_range.ensures.1 (omega arith) in
     let does = c.exchange.ensures false (map row h.buffers) in
     record {
