@@ -4,9 +4,9 @@ use Rattle.std.specs.List.{AllByRecursion}
 use Rattle.std.specs.List.Sorted.{IsNonDecreasingBy}
 use Rattle.std.proofs.ByRecursion.{All-push, All-weaker}
 use Rattle.std.proofs.lemmas.List.{length_push}
-use Rattle.std.proofs.lemmas.List.Sorted.{IsNonDecreasingBy-short}
+use Rattle.std.proofs.lemmas.List.Sorted.{IsNonDecreasingBy-short, IsNonDecreasingBy-drop}
 use Rattle.std.proofs.lemmas.Bool.{cases_eq}
-use Rattle.dated.proofs.Dates.{rises_append, rises_tail}
+use Rattle.dated.proofs.Dates.{rises_append}
 use Rattle.memory.specs.declared.write.Write.{Write}
 use Rattle.memory.specs.Meaning.{Meaning, queue, cell, written, fresh, stored, landed, exchanged, ticked}
 use Rattle.memory.specs.Landings.{Lands}
@@ -45,7 +45,7 @@ row_nil : (clock : ℕ) → SoundRow clock []
 row_nil clock = record { room = omega arith; in_cells = tt; rises = IsNonDecreasingBy-short date_of [] (omega arith); past = tt }
 
 row_tail : (clock : ℕ) (w : Write) (ws : List Write) → SoundRow clock (w ∷ ws) → SoundRow clock ws
-row_tail clock w ws r = record { room = let h = r.room in omega arith; in_cells = r.in_cells.1; rises = rises_tail date_of w ws r.rises; past = r.past.1 }
+row_tail clock w ws r = record { room = let h = r.room in omega arith; in_cells = r.in_cells.1; rises = IsNonDecreasingBy-drop date_of 1 (w ∷ ws) r.rises; past = r.past.1 }
 
 row_push : (clock : ℕ) (ws : List Write) (w : Write) → length ws < 8 → w.cell < 64 → w.date ≡ clock → SoundRow clock ws → SoundRow clock (ws ++ w ∷ [])
 row_push clock ws w few inside now r =

@@ -5,8 +5,9 @@ use Rattle.std.specs.List.{AllByRecursion}
 use Rattle.std.specs.List.Sorted.{IsNonDecreasingBy}
 use Rattle.std.proofs.ByRecursion.{All-push, All-weaker}
 use Rattle.std.proofs.lemmas.List.{append_assoc, append-nil}
+use Rattle.std.proofs.lemmas.List.Sorted.{IsNonDecreasingBy-drop}
 use Rattle.std.proofs.lemmas.Bool.{cases_eq, cases_Bool, eq-eqb, ne_eqb}
-use Rattle.dated.proofs.Dates.{rises_append, rises_tail}
+use Rattle.dated.proofs.Dates.{rises_append}
 use Rattle.memory.specs.declared.write.Write.{Write}
 use Rattle.memory.specs.Meaning.{Meaning, queue, cell, written, stored, landed, exchanged, ticked, due}
 use Rattle.memory.specs.Landings.{Landing, LandsAs}
@@ -37,7 +38,7 @@ pub record Stands (stores lands : ℕ → List Write) (values : ℕ → ℕ) (ti
 
 -- One landing.
 row_tail : (n b : ℕ) (w : Write) (ws : List Write) → Row n b (w ∷ ws) → Row n b ws
-row_tail n b w ws r = record { each = r.each.1; rises = rises_tail date_of w ws r.rises }
+row_tail n b w ws r = record { each = r.each.1; rises = IsNonDecreasingBy-drop date_of 1 (w ∷ ws) r.rises }
 
 module _ (S L : ℕ → List Write) (V : ℕ → ℕ) (n : ℕ) where
   popped_stands : (t : ℕ) (m m' : Meaning) → (p : Popped t m m') → Stands S L V n m

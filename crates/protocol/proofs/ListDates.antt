@@ -3,8 +3,9 @@ use Rattle.std.proofs.Common.{◌≡◌, ℕ, ◌≤◌, ◌≢◌, ◌⊎◌, L
 use Rattle.std.specs.List.{AllByRecursion}
 use Rattle.std.specs.List.Sorted.{IsNonDecreasingBy}
 use Rattle.std.proofs.ByRecursion.{All-weaker, All-push, all_kept_by}
+use Rattle.std.proofs.lemmas.List.Kept.{IsNonDecreasingBy-filter}
 use Rattle.std.proofs.lemmas.Bool.{cases_eq}
-use Rattle.dated.proofs.Dates.{rises_append, rises_kept}
+use Rattle.dated.proofs.Dates.{rises_append}
 use Rattle.protocol.specs.declared.retired.Retired.{Retired}
 use Rattle.protocol.specs.declared.settings.Settings.{Settings}
 use Rattle.protocol.specs.Steps.{keeps}
@@ -59,7 +60,7 @@ acts_ordered z t a a' (scans2 e low loads s goes c k m l) o = same_ordered a a' 
 acts_ordered z t a a' (sweeps {now} {seen} e all goes c k n l) o =
     lists_ordered a a' o t _ c.clock l
     (record {
-      rises = rises_kept (λ (e : Retired). e.date) (keeps a.bound now seen) (a.list t) (o t).rises;
+      rises = IsNonDecreasingBy-filter (λ (e : Retired). e.date) (keeps a.bound now seen) (a.list t) (o t).rises;
       past = all_kept_by (keeps a.bound now seen) (λ (e : Retired). e.date ≤ a.clock) (a.list t) (o t).past;
     })
 

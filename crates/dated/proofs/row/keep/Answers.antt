@@ -1,7 +1,7 @@
 use Rattle.std.proofs.Common.{◌≡◌, ℕ, ◌<◌, min, true, false, List, length, take, sym, ap, ◌∙◌, inl, inr, arith}
 use Rattle.std.proofs.lemmas.List.{take_all}
+use Rattle.std.proofs.lemmas.List.Kept.{IsNonDecreasingBy-filter}
 use Rattle.std.proofs.lemmas.Bool.{cases_lt}
-use Rattle.dated.proofs.Dates.{rises_kept}
 use Rattle.dated.proofs.Keeping.{kept_no, kept_yes, kept_all}
 use Rattle.dated.proofs.row.keep.Goals as goal
 use Rattle.dated.proofs.row.keep.Goals.{then-keeps, else-keeps}
@@ -34,5 +34,5 @@ returns g c =
       answer = k.0;
       entries = k.1;
       row = k.2;
-      dates = λ up. rw k.2 (rises_kept g.T.Dated.stamp (g.K.Rule.keeps c.args.rule.now) (take c.args.len c.args.entries.now) up);
+      dates = λ up. rw k.2 (IsNonDecreasingBy-filter g.T.Dated.stamp (g.K.Rule.keeps c.args.rule.now) (take c.args.len c.args.entries.now) up);
     }
