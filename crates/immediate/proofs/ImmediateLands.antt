@@ -4,7 +4,6 @@ use Rattle.std.proofs.lemmas.List.{get_or-set_same, set-set, set-get_or}
 use Rattle.memory.specs.declared.write.Write.{Write}
 use Rattle.memory.specs.Meaning.{Meaning, queue, cell, with_queue, with_cell, written, newest, value_or, loaded, stored, landed, landed_from, any_of, is_due, due}
 use Rattle.memory.specs.Landings.{Lands}
-use Rattle.std.proofs.lemmas.Bool.{true≢false}
 use Rattle.memory.proofs.Views.{Pushed, landed_pops, stored_pushes, popped_left}
 use Rattle.memory.proofs.Soundness.{get_or-nils}
 
@@ -38,7 +37,7 @@ lands_own t c v m m' lt e self is =
     record {
       landings = record { thread = t; write = written m c v } ∷ [];
       lead = (waits, is ∙ sym (store_lands t c v m lt e));
-      none = λ f. absurd (true≢false (sym self ∙ sym pushed.fixed.self_landing ∙ f));
+      none = λ f. (let fixed = pushed.fixed.self_landing in absurd cc);
     }
   where
     pushed : Pushed t c v m (stored t c v m)

@@ -6,7 +6,7 @@ use Rattle.std.proofs.ByRecursion.{All-weaker}
 use Rattle.std.proofs.lemmas.List.{get_or_past}
 use Rattle.std.proofs.lemmas.List.Elements.{All-from_get_or}
 use Rattle.std.proofs.lemmas.List.Folds.{list_any_none, list_any_at}
-use Rattle.std.proofs.lemmas.Bool.{cases_Bool, true≢false, cases_eq, cases_lt, leb-false, lt-leb, le-leb, or_parts, or_from, or_left}
+use Rattle.std.proofs.lemmas.Bool.{cases_Bool, cases_eq, cases_lt, leb-false, lt-leb, le-leb, or_parts, or_from, or_left}
 use Rattle.dated.proofs.Dates.{rises_head}
 use Rattle.memory.specs.declared.write.Write.{Write}
 use Rattle.memory.specs.Meaning.{Meaning, queue, date_of_first, oldest_date, is_due, due, landed}
@@ -23,7 +23,7 @@ pub record NoneDue (m : Meaning) : Type 0 where
 
 -- where no element passes a test, one does not
 none_at : {X : Type 0} (p : X → Bool) (d : X) (xs : List X) → list_any p xs ≡ false → (i : ℕ) → i < length xs → p (get_or xs i d) ≡ false
-none_at p d xs e i lt = elim (cases_Bool (p (get_or xs i d))) [ inl y ↦ absurd (true≢false (sym (list_any_at p xs i d lt y) ∙ e)) | inr n ↦ n ]
+none_at p d xs e i lt = elim (cases_Bool (p (get_or xs i d))) [ inl y ↦ (let some = list_any_at p xs i d lt y in absurd cc) | inr n ↦ n ]
 
 -- One thread's writes.
 row_none : (m : Meaning) (ws : List Write) → AllByRecursion (InTime m.clock m.bound) ws → list_any (is_due m) ws ≡ false

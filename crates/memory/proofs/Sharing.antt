@@ -1,6 +1,6 @@
 -- From what the cells that threads share promise to what a memory promises of the same call. Assumes nothing.
 use Rattle.std.proofs.Common.{◌≡◌, ℕ, Bool, true, false, not, ◌||◌, ltb, [], ◌∷◌, Ok, Err, Result, ◌<◌, sym, ap, subst, ◌∙◌}
-use Rattle.std.proofs.lemmas.Bool.{true≢false, ltb-true}
+use Rattle.std.proofs.lemmas.Bool.{ltb-true}
 use Rattle.memory.specs.declared.refusal.Refusal.{Refusal}
 use Rattle.memory.specs.declared.refusal.Refusal.TheVariants.{WriteDue, ClockAtEnd}
 use Rattle.memory.specs.Meaning.{Meaning, exchanged, due}
@@ -20,7 +20,7 @@ exchanged_lands c old new m m' done x = record { between = x.between; lands = la
 pub shared_ticks : (L : Meaning → Meaning → Type 0) → ((m : Meaning) → L m m) → (w : Bool) (m m' : Meaning) (r : Result (Unit {0}) Refusal)
     → due m ≡ w → (m.self_landing || not (due m)) ≡ not w → SharedTicks w m m' r → Ticks L m m' r
 shared_ticks L same true m m' (Ok u) d h s =
-    absurd (true≢false (sym (passed_head false WriteDue [] (passed_tail (ltb m.clock 1000000) ClockAtEnd (check false WriteDue ∷ []) s.passes))))
+    let free = passed_head false WriteDue [] (passed_tail (ltb m.clock 1000000) ClockAtEnd (check false WriteDue ∷ []) s.passes) in absurd cc
 shared_ticks L same false m m' (Ok u) d h s = record { passes = rw h s.passes; does = record { between = m; lands = same m; none_due = d; is = s.does } }
 shared_ticks L same w m m' (Err e) d h s = record { fails = rw h s.fails; same = s.same }
 

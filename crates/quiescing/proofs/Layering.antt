@@ -1,6 +1,5 @@
 -- What the memory below a quiescing layer does, the layer does too. Assumes nothing.
 use Rattle.std.proofs.Common.{◌≡◌, ℕ, ◌≤◌, Bool, true, false, cond, eqb, List, [], ◌∷◌, Ok, Err, Result, sym, refl, ap, ◌∙◌, arith}
-use Rattle.std.proofs.lemmas.Bool.{true≢false}
 use Rattle.memory.specs.declared.write.Write.{Write}
 use Rattle.memory.specs.declared.refusal.Refusal.{Refusal}
 use Rattle.memory.specs.Meaning.{Meaning, queue, cell, with_cell, stored, loaded, landed, landed_from, exchanged, ticked}
@@ -23,7 +22,7 @@ quieted_leads k [] m m' e = ap (quieted k) e
 quieted_leads k (l ∷ ls) m m' e = rw (quieted_landed k l.thread m) (e.0, quieted_leads k ls (landed l.thread m) m' e.1)
 
 pub quieted_lands : (k : ℕ) {m m' : Meaning} → Lands m m' → Lands (quieted k m) (quieted k m')
-quieted_lands k {m} {m'} l = record { landings = l.landings; lead = quieted_leads k l.landings m m' l.lead; none = λ e. absurd (true≢false e) }
+quieted_lands k {m} {m'} l = record { landings = l.landings; lead = quieted_leads k l.landings m m' l.lead; none = λ e. absurd cc }
 
 -- a landing that the layer tells the memory below is one of the layer's own
 pub told_lands : (k t : ℕ) (m : Meaning) (w : Write) (ws : List Write) → queue m t ≡ w ∷ ws → Lands (quieted k m) (quieted k (landed t m))
@@ -31,7 +30,7 @@ told_lands k t m w ws e =
     record {
       landings = record { thread = t; write = w } ∷ [];
       lead = (e ∙ ap (λ (q : List Write). w ∷ q) (sym (popped_left (landed_pops t m w ws e) e) ∙ ap (λ (x : Meaning). queue x t) (sym (quieted_landed k t m))), sym (quieted_landed k t m));
-      none = λ f. absurd (true≢false f);
+      none = λ f. absurd cc;
     }
 
 quieted_stored : (k t c v : ℕ) (m : Meaning) → stored t c v (quieted k m) ≡ quieted k (stored t c v m)
