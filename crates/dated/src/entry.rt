@@ -9,7 +9,8 @@ pub trait Dated {
         ensures { result ≡ stamp self.now };
 }
 
-// A rule that says of each entry whether it is kept.
+// A rule that says of each entry whether it is kept. A trait, and no closure `F: Fn(&T) -> bool`: its ghost member names the rule as
+// a function, so that contracts can say exactly which entries are kept; a closure's predicates only relate calls and results.
 pub trait Rule<T> {
     ghost keeps: { Self → T → Bool };
 

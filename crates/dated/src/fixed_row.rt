@@ -6,7 +6,8 @@ ghost use Rattle.std.specs.Prelude.{◌≡◌, ◌≤◌, length, ⊤};
 use std::alloc::AllocError;
 
 // The first `len` of N places are the entries, oldest first; what stands behind them does not count. It has no model, since a
-// type that is `Copy` needs one that gives its fields back, and the entries do not give back the places behind them.
+// type that is `Copy` needs one that gives its fields back, and the entries do not give back the places behind them. Not the kit's
+// `ArrayVec`, since that is not `Copy`, which memories and tables are.
 pub struct FixedRow<T, const N: usize> {
     places: [T; N],
     len: usize,

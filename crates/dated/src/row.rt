@@ -1,5 +1,5 @@
-// A row is the first `len` entries of a slice, oldest first. Slice and length are two arguments, since the functions serve every slice;
-// `FixedRow` keeps the two together.
+// A row is the first `len` entries of a slice, oldest first. Functions over a slice and a length are a rule of this project: they serve
+// every kind of dated entry, in any slice. `FixedRow` keeps slice and length together.
 ghost use Rattle.std.specs.Prelude.{◌≡◌, ℕ, ◌+◌, ◌-◌, ◌<◌, ◌≤◌, List, [], ◌∷◌, ◌++◌, length, take, filter, MatchOption, slice_set};
 ghost use Rattle.std.specs.List.Sorted.{IsNonDecreasingBy};
 ghost use Rattle.std.specs.List.{AllByRecursion};

@@ -3,7 +3,7 @@ use memory::memory::Memory;
 use memory::refusal::Refusal;
 use std::process::Abort;
 
-// The number of a refusal, and 0 of an accepted call.
+// The number of a refusal, and 0 of an accepted call. Refusals are compared by their numbers, since these are what is reported.
 pub(crate) fn number<T: Copy>(answer: Result<T, Refusal>) -> u8 {
     answer.err().map_or(0, |refusal| refusal.number())
 }

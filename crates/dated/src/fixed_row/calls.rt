@@ -60,7 +60,8 @@ impl<T: Copy, const N: usize> FixedRow<T, N> {
 }
 
 impl<T: Dated + Copy, const N: usize> FixedRow<T, N> {
-    // `push`, and dates that never fell do not fall, if the entry is no older than the others.
+    // `push`, and dates that never fell do not fall, if the entry is no older than the others. It goes by the function over slices,
+    // whose promise on dates it passes on.
     pub fn append(&mut self, entry: T) -> Result<(), Full>
         ensures row { Pushes N entry (entries_of self.old) (entries_of self.new) result }
         ensures dates { OnOk result (IsNonDecreasingBy T.Dated.stamp (entries_of self.old) → AllByRecursion (λ x. T.Dated.stamp x ≤ T.Dated.stamp entry) (entries_of self.old) → IsNonDecreasingBy T.Dated.stamp (entries_of self.new)) }
