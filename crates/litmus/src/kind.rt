@@ -13,6 +13,7 @@ use std::alloc::Global;
 use std::error::Error;
 use std::fmt;
 
+// An enum of its own: the crate `lines` has a like one, `MemoryKind`, but this program knows nothing of `lines`.
 #[derive(Clone, Copy)]
 pub enum Kind {
     Held,

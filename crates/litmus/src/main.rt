@@ -7,14 +7,14 @@ mod shown;
 mod test;
 
 use kind::{Kind, run_on};
-use observed::Observed;
+use observed::{Observed, answered};
 use shown::Shown;
 use test::{CALLS, both_zero_orders};
 
 fn show(rt: &HostRuntime, kind: Kind) -> anyhow::Result<()> {
     println!(rt; "{kind}")?;
     let answers = run_on(rt.alloc(), kind, &CALLS)?;
-    for (call, answer) in CALLS.iter().zip(answers.iter()) {
+    for (call, answer) in answered(&CALLS, answers.as_slice()) {
         println!(rt; "  {}: {}", Shown(*call), Shown(*answer))?;
     }
     let observed = Observed::of(&CALLS, answers.as_slice());

@@ -2,6 +2,8 @@
 use memory::refusal::Refusal;
 use memory::run::{Answer, Call};
 use std::fmt;
+use std::iter::Zip;
+use std::slice::Iter;
 
 #[derive(Clone, Copy)]
 pub struct Observed {
@@ -16,25 +18,17 @@ pub struct Observed {
 
 impl Observed {
     pub(crate) fn of(calls: &[Call], answers: &[Result<Answer, Refusal>]) -> Observed {
-        let early_zeros = calls
-            .iter()
-            .zip(answers.iter())
+        let early_zeros = answered(calls, answers)
             .take_while(|(call, answer)| !taken(**call, **answer))
             .filter(|(call, answer)| zero_loaded(**call, **answer))
             .count();
-        let ticks_refused = calls
-            .iter()
-            .zip(answers.iter())
+        let ticks_refused = answered(calls, answers)
             .filter(|(call, answer)| refused(**call, **answer))
             .count();
-        let taken_later = calls
-            .iter()
-            .zip(answers.iter())
+        let taken_later = answered(calls, answers)
             .skip_while(|(call, answer)| !refused(**call, **answer))
             .any(|(call, answer)| taken(*call, *answer));
-        let told_landings = calls
-            .iter()
-            .zip(answers.iter())
+        let told_landings = answered(calls, answers)
             .filter(|(call, answer)| landed(**call, **answer))
             .count();
         Observed {
@@ -46,6 +40,14 @@ impl Observed {
     }
 }
 
+// Each call with its answer.
+pub(crate) fn answered<'a>(
+    calls: &'a [Call],
+    answers: &'a [Result<Answer, Refusal>],
+) -> Zip<Iter<'a, Call>, Iter<'a, Result<Answer, Refusal>>> {
+    calls.iter().zip(answers.iter())
+}
+
 fn taken(call: Call, answer: Result<Answer, Refusal>) -> bool {
     call == Call::Tick && answer.is_ok()
 }
@@ -55,11 +57,11 @@ fn refused(call: Call, answer: Result<Answer, Refusal>) -> bool {
 }
 
 fn zero_loaded(call: Call, answer: Result<Answer, Refusal>) -> bool {
-    matches!(call, Call::Load { thread: _, cell: _ }) && answer == Ok(Answer::Value(0))
+    matches!(call, Call::Load { .. }) && answer == Ok(Answer::Value(0))
 }
 
 fn landed(call: Call, answer: Result<Answer, Refusal>) -> bool {
-    matches!(call, Call::Land { thread: _ }) && answer.is_ok()
+    matches!(call, Call::Land { .. }) && answer.is_ok()
 }
 
 impl fmt::Display for Observed {
