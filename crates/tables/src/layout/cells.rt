@@ -1,11 +1,18 @@
 // The cells: roots, then the hazard cells thread by thread, then the lock and its two flags.
-ghost use Rattle.std.specs.Prelude.{◌≡◌, ◌+◌, ◌<◌, if◌then◌else◌, Some, None};
-ghost use Rattle.tables.specs.Layout.{settings_of};
+ghost use Rattle.std.specs.Prelude.{◌≡◌, ◌<◌, if◌then◌else◌, Some, None};
+ghost use Rattle.tables.specs.Layout.{flag_cell, settings_of};
 ghost use Rattle.protocol.specs.Questions.{hazard_at};
 ghost use Rattle.protocol.specs.Settings.{in_range, hazard_cells, hazard_cell, lock_cell};
 
 use crate::layout::Layout;
 use protocol::settings::Settings;
+
+// The two flags of the lock: the owner's, which is flag 0, and flag 1, which the other threads share.
+#[derive(Clone, Copy, PartialEq, Eq, Debug)]
+pub(crate) enum Flag {
+    Owner,
+    Others,
+}
 
 fn in_range(settings: &Settings) -> bool
     ensures { result ≡ in_range settings.now }
@@ -60,11 +67,12 @@ impl Layout {
         self.settings.roots + self.hazard_cells()
     }
 
-    // The cell of flag 0, the owner's, or of flag 1.
-    pub(crate) fn flag_cell(&self, flag: usize) -> usize
-        requires { flag < 2 }
-        ensures { result ≡ lock_cell self.now.settings + (flag + 1) }
+    pub(crate) fn flag_cell(&self, flag: Flag) -> usize
+        ensures { result ≡ flag_cell self.now.settings flag }
     {
-        self.lock_cell() + (flag + 1)
+        match flag {
+            Flag::Owner => self.lock_cell() + 1,
+            Flag::Others => self.lock_cell() + 2,
+        }
     }
 }

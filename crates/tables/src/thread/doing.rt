@@ -30,7 +30,7 @@ impl Thread {
             return Doing::Nothing;
         };
         let last = last_step(operation);
-        let step = if 0 < self.step && self.step < last {
+        let step = if (1..last).contains(&self.step) {
             self.step
         } else {
             last

@@ -6,6 +6,7 @@ ghost use Rattle.protocol.specs.Plain.{request_of};
 ghost use Rattle.protocol.specs.Steps.{request};
 
 use crate::context::Context;
+use crate::layout::cells::Flag;
 use crate::rows::at_or;
 use crate::thread::Thread;
 use protocol::operation::Operation;
@@ -59,11 +60,11 @@ impl Thread {
             },
             (Operation::Reclaim, _) => Request::Nothing,
             (Operation::OwnerLock, 1) => Request::Store {
-                cell: layout.flag_cell(0),
+                cell: layout.flag_cell(Flag::Owner),
                 value: 1,
             },
             (Operation::OwnerLock, 3) => Request::Store {
-                cell: layout.flag_cell(0),
+                cell: layout.flag_cell(Flag::Owner),
                 value: self.version.wrapping_mul(2),
             },
             (Operation::OwnerLock, 4) => Request::Exchange {
@@ -72,13 +73,13 @@ impl Thread {
                 new: 1,
             },
             (Operation::OwnerLock, _) => Request::Load {
-                cell: layout.flag_cell(1),
+                cell: layout.flag_cell(Flag::Others),
             },
             (Operation::OwnerUnlock, 1) => Request::Load {
-                cell: layout.flag_cell(0),
+                cell: layout.flag_cell(Flag::Owner),
             },
             (Operation::OwnerUnlock, 2 | 3) => Request::Store {
-                cell: layout.flag_cell(0),
+                cell: layout.flag_cell(Flag::Owner),
                 value: 0,
             },
             (Operation::OwnerUnlock, _) => Request::Store {
@@ -91,22 +92,22 @@ impl Thread {
                 new: thread as u64 + 1,
             },
             (Operation::OtherLock, 2) => Request::Load {
-                cell: layout.flag_cell(1),
+                cell: layout.flag_cell(Flag::Others),
             },
             (Operation::OtherLock, 3) => Request::Store {
-                cell: layout.flag_cell(1),
+                cell: layout.flag_cell(Flag::Others),
                 value: self.version.wrapping_mul(2).wrapping_add(1),
             },
             (Operation::OtherLock, 4) => Request::Fence,
             (Operation::OtherLock, 5 | 6) => Request::Clock,
             (Operation::OtherLock, _) => Request::Load {
-                cell: layout.flag_cell(0),
+                cell: layout.flag_cell(Flag::Owner),
             },
             (Operation::OtherUnlock, 1) => Request::Load {
-                cell: layout.flag_cell(1),
+                cell: layout.flag_cell(Flag::Others),
             },
             (Operation::OtherUnlock, 2) => Request::Store {
-                cell: layout.flag_cell(1),
+                cell: layout.flag_cell(Flag::Others),
                 value: self.version.wrapping_add(1).wrapping_mul(2),
             },
             (Operation::OtherUnlock, _) => Request::Store {
