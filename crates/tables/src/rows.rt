@@ -8,7 +8,8 @@ use dated::fixed_row::FixedRow;
 use protocol::node::NodeState;
 use protocol::retired::Retired;
 
-// The node that each hazard index of a thread guards, 0 for none.
+// The node that each hazard index of a thread guards, 0 for none. No Option, since the cells of a memory hold a node's number or 0 for none, and
+// guards are compared with them.
 pub type HazardGuards = FixedRow<u64, 4>;
 
 // The nodes that a thread has retired and not freed since, oldest first.

@@ -14,7 +14,8 @@ use crate::layout::Layout;
 use crate::rows::NodeStates;
 use crate::thread::Thread;
 
-// The first threads of the array are those of the settings; the others stay idle.
+// The first threads of the array are those of the settings; the others stay idle. All eight rows stand in an array, since a row is changed in
+// place, and a `FixedRow` lends none of its entries.
 #[derive(Clone, Copy)]
 pub struct Tables {
     layout: Layout,

@@ -7,6 +7,7 @@ pub(crate) mod request;
 use crate::rows::{HazardGuards, LoadedCells, RetireList};
 use protocol::operation::Operation;
 
+// The step stands beside the operation, since a step is one match on both (a rule of this project), and what is kept outlives a single step.
 #[derive(Clone, Copy)]
 pub struct Thread {
     // none while the thread is idle

@@ -20,10 +20,10 @@ use protocol::settings::Settings;
 
 // The operation of this number; none where there is none, or where an unused argument is not 0. A function and no `TryFrom`, since a tuple of
 // three numbers would not say which is which.
-fn named(number: usize, a: usize, b: usize) -> Option<Operation>
-    ensures { result ≡ named number a b }
+fn named(operation: usize, a: usize, b: usize) -> Option<Operation>
+    ensures { result ≡ named operation a b }
 {
-    match (number, a, b) {
+    match (operation, a, b) {
         (1, root, hazard) => Some(Operation::Protect { root, hazard }),
         (2, from, to) => Some(Operation::Copy { from, to }),
         (3, hazard, 0) => Some(Operation::Release { hazard }),
@@ -93,16 +93,16 @@ impl Tables {
     fn admitted(
         &self,
         thread: usize,
-        number: usize,
+        operation: usize,
         a: usize,
         b: usize,
     ) -> Result<Operation, Refusal>
-        ensures { (m : Meaning) → Admits (running self.now m) thread number a b result }
+        ensures { (m : Meaning) → Admits (running self.now m) thread operation a b result }
     {
         self.calls_left()?;
         let row = self.known(thread)?;
         check(row.is_idle(), Refusal::ThreadBusy)?;
-        let operation = named(number, a, b).ok_or(Refusal::BadOperation)?;
+        let operation = named(operation, a, b).ok_or(Refusal::BadOperation)?;
         check(
             fits(&self.layout.settings, operation),
             Refusal::BadOperation,
@@ -116,13 +116,13 @@ impl Tables {
     pub fn begin(
         &mut self,
         thread: usize,
-        number: usize,
+        operation: usize,
         a: usize,
         b: usize,
     ) -> Result<Answer, Refusal>
-        ensures { (m : Meaning) → Performs (running self.old m) (running self.new m) (Begin thread number a b) (answer_of result) }
+        ensures { (m : Meaning) → Performs (running self.old m) (running self.new m) (Begin thread operation a b) (answer_of result) }
     {
-        let operation = self.admitted(thread, number, a, b)?;
+        let operation = self.admitted(thread, operation, a, b)?;
         // the rows are lent first: a place of them lent straight from `self` got no proof
         let threads = &mut self.threads;
         threads[thread].begin(operation);

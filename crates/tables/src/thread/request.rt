@@ -14,7 +14,8 @@ use protocol::request::Request;
 
 impl Thread {
     // One match, by a rule of this project, so that its cases can be read against the table of operations. The last step of each operation
-    // stands for every further number.
+    // stands for every further number. A number of a node or a thread is `as` u64 for the memory, since there is no From from usize to u64. A flag's
+    // word holds 2 x version + f, as the memory holds it, which two operators take apart.
     pub(crate) fn request(&self, context: &Context) -> Request
         requires { fitting context.now.layout.settings self.now ≡ true }
         ensures { (ns : List NodeState) → request_of result ≡ request (here_at context.now self.now ns) (at self.now) }
