@@ -33,7 +33,12 @@ abbrev pub answer_of : Result Answer Refusal → Answer
 answer_of (Ok a) = a
 answer_of (Err e) = Refused e
 
+-- a begin that passes every check, and the operation that it gives
+pub record Admitted (s : State) (t n a b : ℕ) (o : Operation) : Type 0 where
+  pub passes : first_no (checks_of (Begin t n a b) s) ≡ None
+  pub is : named n a b ≡ Some o
+
 -- the operation that a begin gives the thread, where every check passes; else the first that fails
 abbrev pub Admits : State → (t n a b : ℕ) → Result Operation Refusal → Type 0
-Admits s t n a b (Ok o) = (first_no (checks_of (Begin t n a b) s) ≡ None) × (named n a b ≡ Some o)
+Admits s t n a b (Ok o) = Admitted s t n a b o
 Admits s t n a b (Err e) = first_no (checks_of (Begin t n a b) s) ≡ Some e

@@ -11,18 +11,18 @@ returns-in_err-operation c m = exits _ _ c.from_residual.ensures.1 (c.in_err-ope
 
 pub offset_bounds-threads-thread : goal.offset_bounds-threads-thread
 offset_bounds-threads-thread c =
-    let p = granted c.args.self.now c.args.thread c.args.operation c.args.a c.args.b c.in_ok-operation.operation (λ m. c.in_ok-operation.ensures m) in
+    let p = granted c.args.self.now c.in_ok-operation.ensures in
     search rules
 
 pub listed : goal.listed
-listed c = (granted c.args.self.now c.args.thread c.args.operation c.args.a c.args.b c.in_ok-operation.operation (λ m. c.in_ok-operation.ensures m)).listed
+listed c = (granted c.args.self.now c.in_ok-operation.ensures).listed
 
 pub bounds-threads-thread : goal.bounds-threads-thread
-bounds-threads-thread c = (granted c.args.self.now c.args.thread c.args.operation c.args.a c.args.b c.in_ok-operation.operation (λ m. c.in_ok-operation.ensures m)).low
+bounds-threads-thread c = (granted c.args.self.now c.in_ok-operation.ensures).low
 
 pub overflow_add-self : goal.overflow_add-self
 overflow_add-self c =
-    let p = granted c.args.self.now c.args.thread c.args.operation c.args.a c.args.b c.in_ok-operation.operation (λ m. c.in_ok-operation.ensures m) in
+    let p = granted c.args.self.now c.in_ok-operation.ensures in
     omega (arith, p.few)
 
 pub invariant_of-self : goal.invariant_of-self
@@ -30,12 +30,8 @@ invariant_of-self c =
     let x = c.args.self.now in
     let t = c.args.thread in
     let z = x.layout.settings in
-    let p = granted c.args.self.now c.args.thread c.args.operation c.args.a c.args.b c.in_ok-operation.operation (λ m. c.in_ok-operation.ensures m) in
+    let p = granted c.args.self.now c.in_ok-operation.ensures in
     record { eight = length-set x.threads t _ ∙ x.eight; fit = fitting_set z x.threads t _ x.fit (ap (fitting z) c.begin.ensures ∙ p.fits c.index-threads-thread.result) }
 
 pub returns : goal.returns
-returns c m =
-    let x = c.args.self.now in
-    let h = c.in_ok-operation.ensures m in
-    let p = granted c.args.self.now c.args.thread c.args.operation c.args.a c.args.b c.in_ok-operation.operation (λ m. c.in_ok-operation.ensures m) in
-    begin_done x m c.args.thread c.args.operation c.args.a c.args.b c.index-threads-thread.result c.in_ok-operation.operation p.thread h.0 h.1 _ (states_of c.take.new.nodes) c.begin.ensures c.take.ensures
+returns c m = begin_done c.args.self.now c.in_ok-operation.ensures m c.index-threads-thread.result _ (states_of c.take.new.nodes) c.begin.ensures c.take.ensures
