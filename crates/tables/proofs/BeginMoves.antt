@@ -78,7 +78,17 @@ failed {x = x} {t = t} {n = n} {a = a} {b = b} {p = p} {q = q} {k = k} {e = e} r
     let h = said_no p q k e same says in
     admits_none (running x m) t n a b r e is (l.asks m ∙ rw h.0 h.1)
 
-module _ (x : Tables) (t n a b : ℕ) (own : Thread) (few : x.accepted < 8000) (known : (t < x.layout.settings.threads) × ((d : Thread) → get_or x.threads t d ≡ own)) where
+pub unnamed : {x : Tables} {t n a b : ℕ} {cs : List (Check Refusal)} {s : Option Operation} {e : Refusal} (r : Result Operation Refusal) → Left x t n a b (check (asked (named n a b) (fits x.layout.settings) false) BadOperation ∷ cs)
+    → s ≡ named n a b → Err e ≡ ok_or s BadOperation → IsErrAnd r (λ y. y ≡ e) → (m : Meaning) → Admits (running x m) t n a b r
+unnamed {x = x} {t = t} {n = n} {a = a} {b = b} {s = s} {e = e} r l same says is m =
+    let none : s ≡ None = grind (arith, says) in
+    let bad : ◌≡◌ {A = Option Refusal} (Some BadOperation) (Some e) = grind (arith, says) in
+    admits_none (running x m) t n a b r e is (l.asks m ∙ rw (sym same ∙ none) bad)
+
+pub all_passed : {x : Tables} {t n a b : ℕ} {o : Operation} → Left x t n a b [] → named n a b ≡ Some o → (m : Meaning) → Admitted (running x m) t n a b o
+all_passed l is m = record { passes = l.asks m; is = is }
+
+module _ (x : Tables) {t n a b : ℕ} {own : Thread} (few : x.accepted < 8000) (known : (t < x.layout.settings.threads) × ((d : Thread) → get_or x.threads t d ≡ own)) where
   pub known_asks : Left x t n a b (of_thread (tables_of x) t (row_of own) (named n a b))
   known_asks =
       let table = tables_of x in
@@ -91,17 +101,11 @@ module _ (x : Tables) (t n a b : ℕ) (own : Thread) (few : x.accepted < 8000) (
 
   -- once the thread is idle
   module _ {i : Bool} {u : Unit {0}} (same : i ≡ is_idle (doing_at (at own))) (free : Ok u ≡ checked i ThreadBusy) where
-    idle_asks : Left x t n a b (of_operation (tables_of x) t (row_of own) (named n a b))
+    pub idle_asks : Left x t n a b (of_operation (tables_of x) t (row_of own) (named n a b))
     idle_asks = passed known_asks same free
 
-    pub unnamed_refused : (s : Option Operation) (e : Refusal) (r : Result Operation Refusal) → s ≡ named n a b → Err e ≡ ok_or s BadOperation → IsErrAnd r (λ y. y ≡ e) → (m : Meaning) → Admits (running x m) t n a b r
-    unnamed_refused s e r is says out m =
-        let none : s ≡ None = grind (arith, says) in
-        let bad : ◌≡◌ {A = Option Refusal} (Some BadOperation) (Some e) = grind (arith, says) in
-        admits_none (running x m) t n a b r e out (idle_asks.asks m ∙ rw (sym is ∙ none) bad)
-
-    pub named_asks : (s : Option Operation) (o : Operation) → s ≡ named n a b → Ok o ≡ ok_or s BadOperation → Left x t n a b (of_operation (tables_of x) t (row_of own) (Some o))
-    named_asks s o is says =
+    pub named_asks : {s : Option Operation} {o : Operation} → s ≡ named n a b → Ok o ≡ ok_or s BadOperation → Left x t n a b (of_operation (tables_of x) t (row_of own) (Some o))
+    named_asks {s} {o} is says =
         let found : s ≡ Some o = grind (arith, says) in
         record { asks = λ m. idle_asks.asks m ∙ rw (sym is ∙ found) refl }
 
