@@ -1,9 +1,11 @@
 // Printing a code and a value.
 ghost use Rattle.std.specs.Prelude.{◌≡◌};
+ghost use Rattle.protocol.specs.Codes.{code_of, value_of};
 ghost use Rattle.lines.specs.Output.{printed, bytes_of};
 
 use crate::line::{Line, SIZE};
 use itoa::write_digits;
+use protocol::answer::Answer;
 
 impl Line {
     // The code, a blank, the value and a newline, written from the last to the first.
@@ -22,5 +24,14 @@ impl Line {
         ensures { result.now ≡ bytes_of self.now }
     {
         &self.bytes[self.start..]
+    }
+}
+
+// The line of an answer.
+impl From<Answer> for Line {
+    ghost from_gives = { λ answer line. bytes_of line ≡ printed (code_of answer) (value_of answer) };
+
+    fn from(answer: Answer) -> Line {
+        Line::print(answer.code(), answer.value())
     }
 }

@@ -5,7 +5,7 @@ ghost use Rattle.protocol.specs.declared.call.Call.TheVariants.{SetUp};
 ghost use Rattle.lines.specs.Input.{call_in};
 ghost use Rattle.lines.specs.Output.{bytes_of};
 ghost use Rattle.listing.specs.Made.{Opened};
-ghost use Rattle.listing.specs.Session.{Prints, Responds, begun, malformed, memory_in, never, shown};
+ghost use Rattle.listing.specs.Session.{Prints, Responds, begun, malformed, memory_in, never};
 ghost use Rattle.listing.specs.Stages.{session_at};
 
 use crate::listing::{Listing, Stage};
@@ -24,13 +24,6 @@ use quiescing::Quiescing;
 // The number that a malformed line prints.
 const MALFORMED: u64 = 38;
 
-// The line of an answer. It is no `From`, since both types are of other crates.
-fn shown(answer: Answer) -> Line
-    ensures { bytes_of result ≡ shown answer }
-{
-    Line::print(answer.code(), answer.value())
-}
-
 fn malformed() -> Line
     ensures { bytes_of result ≡ malformed }
 {
@@ -42,7 +35,7 @@ fn respond<M: Memory>(machine: &mut Machine<M>, line: &[u8]) -> Line
     ensures { Responds (call_in line.now) machine.old machine.new (bytes_of result) }
 {
     match parse_call(line) {
-        Some(call) => shown(machine.call(call)),
+        Some(call) => Line::from(machine.call(call)),
         None => malformed(),
     }
 }
@@ -52,7 +45,7 @@ fn refused(line: &[u8]) -> Line
     ensures { Responds (call_in line.now) never never (bytes_of result) }
 {
     match parse_call(line) {
-        Some(_) => shown(Answer::Refused(Refusal::NotSetUp)),
+        Some(_) => Line::from(Answer::Refused(Refusal::NotSetUp)),
         None => malformed(),
     }
 }
@@ -111,7 +104,7 @@ impl Listing {
         match open(&head) {
             Ok((stage, answer)) => {
                 self.stage = stage;
-                shown(answer)
+                Line::from(answer)
             }
             Err(refusal) => Line::print(u64::from(refusal.number()), 0),
         }

@@ -16,4 +16,4 @@ opens h (Some m) p bs w e = (w.0, w.1, (p.1, w.2, e))
 pub returns-in-Ok : goal.returns-in-Ok
 returns-in-Ok c =
     let head = c.in-Some.head in
-    rw (sym c.in-Some.ensures) (opens head (memory_in head) (c.in-Ok.stage, c.in-Ok.answer) _ c.in-Ok.ensures c.shown.ensures)
+    rw (sym c.in-Some.ensures) (opens head (memory_in head) (c.in-Ok.stage, c.in-Ok.answer) _ c.in-Ok.ensures c.from.ensures)
