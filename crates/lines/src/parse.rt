@@ -1,5 +1,5 @@
 // What an input line says.
-ghost use Rattle.std.specs.Prelude.{◌≡◌};
+ghost use Rattle.std.specs.Prelude.{◌≡◌, slice_index};
 ghost use Rattle.std.specs.Option.{option_map};
 ghost use Rattle.lines.specs.Input.{begin_of, call_in, head_in};
 ghost use Rattle.lines.specs.Text.{numbers};
@@ -36,6 +36,14 @@ pub fn parse_head(line: &[u8]) -> Option<Head>
     })
 }
 
+// The one thread that a landing or a step names.
+fn parse_thread(line: &[u8]) -> Option<usize>
+    ensures { result ≡ option_map (λ ns. slice_index ns 0) (numbers 255 1 line.now) }
+{
+    let [thread] = numbers::<1>(CALL_LIMIT, line)?;
+    Some(usize::from(thread))
+}
+
 // The begin of a thread, an operation and its two arguments.
 fn parse_begin(line: &[u8]) -> Option<Call>
     ensures { result ≡ option_map begin_of (numbers 255 4 line.now) }
@@ -55,18 +63,12 @@ pub fn parse_call(line: &[u8]) -> Option<Call>
 {
     match line {
         [b't'] => Some(Call::Tick),
-        [b'l', b' ', rest @ ..] => {
-            let [thread] = numbers::<1>(CALL_LIMIT, rest)?;
-            Some(Call::Land {
-                thread: usize::from(thread),
-            })
-        }
-        [b's', b' ', rest @ ..] => {
-            let [thread] = numbers::<1>(CALL_LIMIT, rest)?;
-            Some(Call::Step {
-                thread: usize::from(thread),
-            })
-        }
+        [b'l', b' ', rest @ ..] => Some(Call::Land {
+            thread: parse_thread(rest)?,
+        }),
+        [b's', b' ', rest @ ..] => Some(Call::Step {
+            thread: parse_thread(rest)?,
+        }),
         [b'b', b' ', rest @ ..] => parse_begin(rest),
         _ => None,
     }
