@@ -125,7 +125,7 @@ fn reads_first_lines(rt: HostRuntime) {
         },
         bound: 6,
     };
-    assert!(rt; parse_head(b"1 0 2 1 3 4 5 6") == Some(plain));
+    assert_eq!(rt; parse_head(b"1 0 2 1 3 4 5 6"), Some(plain));
     let large = Head {
         memory: 65535,
         limit: 65534,
@@ -138,22 +138,25 @@ fn reads_first_lines(rt: HostRuntime) {
         },
         bound: 10,
     };
-    assert!(rt; parse_head(b"65535 65534 0 00 007 0065535 1 10") == Some(large));
+    assert_eq!(rt;
+        parse_head(b"65535 65534 0 00 007 0065535 1 10"),
+        Some(large)
+    );
 }
 
 #[test]
 fn names_memories(rt: HostRuntime) {
-    assert!(rt; MemoryKind::try_from(1) == Ok(MemoryKind::Held));
-    assert!(rt; MemoryKind::try_from(2) == Ok(MemoryKind::Immediate));
-    assert!(rt; MemoryKind::try_from(3) == Ok(MemoryKind::Quiescing));
-    assert!(rt; MemoryKind::try_from(0) == Err(UnknownMemory(0)));
-    assert!(rt; MemoryKind::try_from(4) == Err(UnknownMemory(4)));
+    assert_eq!(rt; MemoryKind::try_from(1), Ok(MemoryKind::Held));
+    assert_eq!(rt; MemoryKind::try_from(2), Ok(MemoryKind::Immediate));
+    assert_eq!(rt; MemoryKind::try_from(3), Ok(MemoryKind::Quiescing));
+    assert_eq!(rt; MemoryKind::try_from(0), Err(UnknownMemory(0)));
+    assert_eq!(rt; MemoryKind::try_from(4), Err(UnknownMemory(4)));
 }
 
 #[test]
 fn reads_calls(rt: HostRuntime) {
     for (line, call) in GOOD_CALLS {
-        assert!(rt; parse_call(line) == Some(call));
+        assert_eq!(rt; parse_call(line), Some(call));
     }
 }
 
@@ -164,17 +167,20 @@ fn reads_long_numbers(rt: HostRuntime) {
     line[0] = b's';
     line[1] = b' ';
     line[1002] = b'5';
-    assert!(rt; parse_call(&line) == Some(Call::Step { thread: 5 }));
+    assert_eq!(rt; parse_call(&line), Some(Call::Step { thread: 5 }));
     line[2] = b'1';
     assert!(rt; parse_call(&line).is_none());
 }
 
 #[test]
 fn prints_lines(rt: HostRuntime) {
-    assert!(rt; Line::print(0, 0).as_slice() == b"0 0\n".as_slice());
-    assert!(rt; Line::print(2, 10).as_slice() == b"2 10\n".as_slice());
-    assert!(rt; Line::print(38, 0).as_slice() == b"38 0\n".as_slice());
-    assert!(rt; Line::print(255, 100).as_slice() == b"255 100\n".as_slice());
+    assert_eq!(rt; Line::print(0, 0).as_slice(), b"0 0\n".as_slice());
+    assert_eq!(rt; Line::print(2, 10).as_slice(), b"2 10\n".as_slice());
+    assert_eq!(rt; Line::print(38, 0).as_slice(), b"38 0\n".as_slice());
+    assert_eq!(rt; Line::print(255, 100).as_slice(), b"255 100\n".as_slice());
     let largest = Line::print(u64::MAX, 10000000000000000000);
-    assert!(rt; largest.as_slice() == b"18446744073709551615 10000000000000000000\n".as_slice());
+    assert_eq!(rt;
+        largest.as_slice(),
+        b"18446744073709551615 10000000000000000000\n".as_slice()
+    );
 }
