@@ -7,7 +7,8 @@ ghost use Rattle.std.specs.Prelude.{◌≡◌, ◌≤◌, length};
 const SIZE: usize = 42;
 
 // The bytes from `start` on are the line, with its newline. An array beside a start, since a line in an `ArrayString` gets no proof where
-// it is passed by value and used again.
+// it is passed by value and used again. No `FixedRow` either: the digits are written from the last to the first, so that the line ends
+// where the array ends.
 #[derive(Clone, Copy)]
 pub struct Line {
     bytes: [u8; SIZE],

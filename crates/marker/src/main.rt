@@ -25,7 +25,8 @@ fn main(rt: HostRuntime) -> io::Result<()> {
     let mut output = BufWriter::new(rt.alloc(), rt.stdout())?;
     let mut listing = Listing::new();
     let mut line: Vec<u8> = Vec::new(rt.alloc());
-    // to the end of the input: a loop that reads has to have a count, and no input has so many lines
+    // One buffer serves every line, where `split` would make a `Vec` for each. The count is the form for reading to the end of an
+    // input: a loop that reads has to have one, and no input has so many lines.
     for _ in 0..u64::MAX {
         line.clear();
         if input.read_until(b'\n', &mut line)? == 0 {

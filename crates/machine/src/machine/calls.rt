@@ -1,5 +1,7 @@
 // The calls of the machine. Each promises that its answer and the state that it leaves are the defined ones, and that every
 // history which explains the state at entry explains, with this call at its end, the state at exit and has the whole guarantee.
+// Four calls repeat `let Some(tables) = ..`: they differ in the call of the tables, and a helper that took it as a closure would
+// promise by the closure's predicates what each call promises plainly.
 ghost use Rattle.std.specs.Prelude.{◌≡◌};
 ghost use Rattle.protocol.specs.Calls.{Performs, begun_over};
 ghost use Rattle.protocol.specs.declared.call.Call.TheVariants.{SetUp, Tick, Land, Begin, Step};

@@ -1,6 +1,7 @@
 // The questions of the machine, which change nothing. There is no answer before set-up, nor for a thread, index or node that is out
 // of range. Each promises that the answer is the one that the tables show, and the one that every history which explains the
-// machine's state gives.
+// machine's state gives. Each states the clause `history` in full: each says it of another question, and a word for it would hide
+// the quantifier over histories.
 ghost use Rattle.std.specs.Prelude.{◌≡◌, List};
 ghost use Rattle.protocol.specs.Guarantees.{Explains};
 ghost use Rattle.protocol.specs.History.{Event, settings_in};
