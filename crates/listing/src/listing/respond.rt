@@ -75,7 +75,7 @@ fn open(head: &Head) -> Result<(Stage, Answer), MemoryRefusal>
         }
         (Ok(MemoryKind::Quiescing), limit) => {
             let below = Held::new(head.bound)?;
-            let layer = Quiescing::new(below, limit).map_err(|unmade| unmade.refusal)?;
+            let layer = Quiescing::new(below, limit)?;
             let (machine, answer) = set_up(layer, head.settings);
             Ok((Stage::Quiescing(machine), answer))
         }
