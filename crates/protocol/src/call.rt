@@ -10,7 +10,8 @@ pub enum Call {
     },
     Begin {
         thread: usize,
-        // the numbers as a line of a listing has them; no struct, since only `begin` takes them, and takes them apart at once
+        // four numbers, as a line of a listing has them; a struct of these three would be made by each caller from three numbers, to be
+        // taken apart where the operation is named
         operation: usize,
         a: usize,
         b: usize,
