@@ -88,6 +88,7 @@ unnamed {x = x} {t = t} {n = n} {a = a} {b = b} {s = s} {e = e} r l same says is
 pub all_passed : {x : Tables} {t n a b : ℕ} {o : Operation} → Left x t n a b [] → named n a b ≡ Some o → (m : Meaning) → Admitted (running x m) t n a b o
 all_passed l is m = record { passes = l.asks m; is = is }
 
+-- where the thread is known and calls are left
 module _ (x : Tables) {t n a b : ℕ} {own : Thread} (few : x.accepted < 8000) (known : (t < x.layout.settings.threads) × ((d : Thread) → get_or x.threads t d ≡ own)) where
   pub known_asks : Left x t n a b (of_thread (tables_of x) t (row_of own) (named n a b))
   known_asks =
