@@ -1,32 +1,42 @@
 -- A line, cut at its first blank, and its fields.
-use Rattle.std.proofs.Common.{◌≡◌, ℕ, suc, ◌+◌, ◌-◌, ◌<◌, ◌≤◌, Bool, true, false, cond, eqb, leb, List, [], ◌∷◌, ◌++◌, map, length, take, drop, set, Some, None, Option, sym, refl, ap, ◌∙◌, append_assoc, append-nil, nat_lt, arith}
+use Rattle.std.proofs.Common.{Bor, is_some, get_or, subst, ◌≡◌, ℕ, suc, ◌+◌, ◌-◌, ◌<◌, Bool, true, false, cond, eqb, leb, List, [], ◌∷◌, ◌++◌, map, length, take, set, Some, None, Option, sym, refl, ap, ◌∙◌, append_assoc, append-nil, arith}
 use lib.Dec.{eqb-suc-suc}
-use Rattle.std.specs.List.{position, position_or_len, All}
+use Rattle.std.specs.Bool.{MatchBool}
+use Rattle.std.specs.Fn.{CalledAt}
+use Rattle.std.specs.List.{All, IsFirstMatchOrLen}
+use Rattle.std.specs.Slice.Iter.{split_callee, split_steps}
+use Rattle.std.specs.declared.slice.Split.{Split}
 use Rattle.std.specs.Char.{is_ascii_digit}
 use Rattle.std.specs.Option.{option_map}
 use Rattle.std.specs.Str.{all_ascii_digits}
 use Rattle.std.proofs.lemmas.Bool.{ne_eqb, and_parts, leb-true}
 use Rattle.std.proofs.lemmas.List.Elements.{All-nil, All-cons}
-use Rattle.std.proofs.lemmas.List.Sums.{fails_before_first}
-use Rattle.std.proofs.lemmas.Bool.Decides.{nat_tests}
+use Rattle.std.proofs.lemmas.Fn.{always_returns_same}
 use Rattle.std.proofs.lemmas.Grind.{common_steps}
-use Rattle.std.proofs.lemmas.List.Splits.{slice_split_first, slice_split_none, slice_split_at, length-slice_split}
+use Rattle.std.proofs.lemmas.List.Splits.{slice_split_none, slice_split_at, length-slice_split}
 use Rattle.lines.specs.Text.{number_in, fields, all_some}
 
 -- what ends a field
 abbrev pub blank : ℕ → Bool
 blank c = eqb c 32
 
-pub cut_at : (bs : List ℕ) (i : ℕ) → position blank bs ≡ Some i → fields bs ≡ take i bs ∷ fields (drop (i + 1) bs)
-cut_at bs i e = grind (arith, common_steps, slice_split_first blank bs 0)
+-- the fields that a split has still to give
+abbrev pub fields_left : Bool → List ℕ → List (List ℕ)
+fields_left done bs = cond done [] (fields bs)
 
-pub cut_none : (bs : List ℕ) → position blank bs ≡ None → fields bs ≡ bs ∷ []
-cut_none bs e =
-    let all : length bs ≤ position_or_len blank bs = none_before bs (nat_lt (position_or_len blank bs) (length bs)) refl e in
-    slice_split_none blank bs (λ k d lt. fails_before_first blank bs k d (omega arith))
-  where
-    none_before : (bs : List ℕ) (b : Bool) → nat_lt (position_or_len blank bs) (length bs) ≡ b → position blank bs ≡ None → length bs ≤ position_or_len blank bs
-    none_before bs b e none = grind (arith, nat_tests)
+first_part : (bs x rest : List ℕ) (done : Bool) → MatchBool done (bs ≡ x) ((y : ℕ) × (bs ≡ x ++ (y ∷ rest))) → IsFirstMatchOrLen blank bs (length x) → fields bs ≡ x ∷ fields_left done rest
+first_part bs x rest true e h = ap fields e ∙ slice_split_none blank x (λ k d l. subst (λ ys. blank (get_or ys k d) ≡ false) e (h.0 k d (omega arith) l))
+first_part bs x rest false e h =
+    let front : All (λ z. blank z ≡ false) x = λ k d l. let a = h.0 k d (omega arith) l in let b = e.1 in grind (arith, common_steps) in
+    let hit : blank e.0 ≡ true = let b = e.1 in let a = h.1 (grind (arith, common_steps)) e.0 in grind (arith, common_steps) in
+    ap fields e.1 ∙ slice_split_at blank x e.0 rest front hit
+
+-- a step of a split takes the first field
+pub next_field : {F : Type 0} {g : _} (s t : Split ℕ F) (x : Bor (List ℕ)) → split_steps g s (Some x) t
+    → ((a : ℕ) (b : Bool) (q : F) → CalledAt g (split_callee s) a b q → (q ≡ split_callee s) × (b ≡ blank a)) → fields_left s.done s.rest.now ≡ x.now ∷ fields_left t.done t.rest.now
+next_field {F} {g} s t x k tests =
+    let key = always_returns_same g (λ a r. r ≡ blank a.0.now) (split_callee s) (λ a r q called. let m = tests a.0.now r q (record { shown = a.0; shows = refl; called = called }) in (m.1, m.0)) in
+    rw k.0 (first_part s.rest.now x.now t.rest.now t.done k.1 (k.2 blank key).1)
 
 -- so many numbers, one in each field
 abbrev pub numbers_of : ℕ → ℕ → List (List ℕ) → Option (List ℕ)
@@ -70,6 +80,12 @@ no_field_left limit found = rw (append-nil found)
 -- every line has a field
 pub some_field_left : (limit : ℕ) (found bs : List ℕ) → numbers_with limit 0 found (fields bs) ≡ None
 some_field_left limit found bs = rw (ne_eqb (length (fields bs)) 0 (λ e. omega (arith, length-slice_split blank bs)))
+
+-- a last step of a split, which gives none exactly where all numbers were found
+pub last_step : {F : Type 0} (g : _) (limit : ℕ) (found : List ℕ) (s t : Split ℕ F) (r : Option (Bor (List ℕ))) → split_steps g s r t
+    → numbers_with limit 0 found (fields_left s.done s.rest.now) ≡ cond (is_some r) None (Some found)
+last_step g limit found s t None k = rw k.0 (no_field_left limit found)
+last_step g limit found s t (Some x) k = rw k.0 (some_field_left limit found s.rest.now)
 
 -- digits have no blank
 no_blank : (bs : List ℕ) → all_ascii_digits bs ≡ true → All (λ c. blank c ≡ false) bs

@@ -17,11 +17,6 @@ number_in limit bs = cond (nat_lt 0 (length bs) && (all_ascii_digits bs && nat_l
 abbrev pub fields : List ℕ → List (List ℕ)
 fields bs = slice_split (λ c. c == 32) bs
 
--- the fields of what stands after a blank; none where there is no blank
-abbrev pub fields_after : Option (List ℕ) → List (List ℕ)
-fields_after None = []
-fields_after (Some bs) = fields bs
-
 -- all of them, if none is missing
 abbrev pub all_some : List (Option ℕ) → Option (List ℕ)
 all_some [] = Some []

@@ -1,7 +1,7 @@
 // Numbers in a line, with blanks between them.
-ghost use Rattle.std.specs.Prelude.{◌≡◌, ◌∷◌};
+ghost use Rattle.std.specs.Prelude.{◌≡◌, length};
 ghost use Rattle.std.specs.Option.{option_map};
-ghost use Rattle.lines.specs.Text.{number_in, numbers, fields, fields_after};
+ghost use Rattle.lines.specs.Text.{number_in, numbers};
 
 // The number that the bytes write, if they are digits and it is at most `limit`.
 fn number(limit: u16, bytes: &[u8]) -> Option<u16>
@@ -25,14 +25,16 @@ fn number(limit: u16, bytes: &[u8]) -> Option<u16>
     Some(value as u16)
 }
 
-// The line, cut at its first blank: its first field, and what stands after the blank, if there is one.
-fn cut(line: &[u8]) -> (&[u8], Option<&[u8]>)
-    ensures { fields line.now ≡ result.0.now ∷ fields_after (option_map (λ after. after.now) result.1) }
+// One number for each place, each at most `limit`, with single blanks between them. Over a slice, since a loop beside a `Split` gets no
+// goals in a function with a const parameter.
+fn fill(limit: u16, line: &[u8], found: &mut [u16]) -> Option<()>
+    ensures { option_map (λ _. found.new) result ≡ numbers limit (length found.old) line.now }
 {
-    match line.iter().position(|byte| *byte == b' ') {
-        Some(blank) => (&line[..blank], Some(&line[blank + 1..])),
-        None => (line, None),
+    let mut fields = line.split(|byte| *byte == b' ');
+    for place in found {
+        *place = number(limit, fields.next()?)?;
     }
+    fields.next().is_none().then_some(())
 }
 
 // Exactly so many numbers, each at most `limit`, with single blanks between them.
@@ -40,14 +42,6 @@ pub(crate) fn numbers<const N: usize>(limit: u16, line: &[u8]) -> Option<[u16; N
     ensures { result ≡ numbers limit N line.now }
 {
     let mut found = [0; N];
-    let mut left = Some(line);
-    for place in &mut found {
-        let (field, after) = cut(left?);
-        *place = number(limit, field)?;
-        left = after;
-    }
-    match left {
-        None => Some(found),
-        Some(_) => None,
-    }
+    fill(limit, line, &mut found)?;
+    Some(found)
 }
