@@ -19,7 +19,7 @@ late_date m None = refl
 late_date m (Some d) = refl
 
 -- an element of a list that has a place
-some_element : {X : Type 0} (xs : List X) (k : ℕ) → k < length xs → X
+pub some_element : {X : Type 0} (xs : List X) (k : ℕ) → k < length xs → X
 some_element [] k lt = absurd (omega arith)
 some_element (x ∷ xs) k lt = x
 

@@ -1,5 +1,5 @@
 -- From a thread's row to what the tables show. Assumes nothing.
-use Rattle.std.proofs.Common.{◌≡◌, ℕ, zero, suc, ◌<◌, ◌≤◌, Bool, true, false, not, List, [], ◌∷◌, length, get_or, take, slice_get, Some, None, Option, sym, refl, ◌∙◌, arith}
+use Rattle.std.proofs.Common.{◌≡◌, ℕ, zero, suc, ◌<◌, ◌≤◌, Bool, true, false, not, List, length, get_or, take, slice_get, Some, None, Option, sym, refl, ◌∙◌, arith}
 use Rattle.std.proofs.lemmas.Bool.{lt-ltb, le-ltb}
 use Rattle.std.proofs.lemmas.List.{get_or-take, length-take-le}
 use Rattle.std.proofs.lemmas.List.Quantifiers.{position-Some}
@@ -9,6 +9,7 @@ use Rattle.std.proofs.lemmas.Grind.{common_steps}
 use Rattle.std.proofs.lemmas.Option.{gets, slice_get_within, get_or_from_slice_get}
 use Rattle.std.specs.Option.{option_map}
 use Rattle.std.specs.Prelude.{position}
+use Rattle.memory.proofs.DueDates.{some_element}
 use Rattle.protocol.specs.Questions.{first_below, inside_shown, shown, is_thread}
 use Rattle.protocol.specs.Tables.{Thread as Row, thread_of}
 use Rattle.protocol.proofs.Asked.{first_found}
@@ -57,10 +58,6 @@ fails_at p xs k d e lt =
     let h = prefix_len_passes (λ x. not (p x)) xs k d (omega arith) in
     grind (arith, h)
 
-some_row : (ts : List Thread) → 0 < length ts → Thread
-some_row [] lt = absurd (omega arith)
-some_row (t ∷ ts) lt = t
-
 module _ (x : Tables) where
   test_at : (k : ℕ) (d : Thread) (b : Bool) → k < x.layout.settings.threads → (get_or (rows x 0) k d).inside ≡ b → (thread_of (tables_of x) k).inside ≡ b
   test_at k d b lt e = rw (row_at x k d lt, ← get_or-take x.layout.settings.threads x.threads k d lt) e
@@ -74,4 +71,4 @@ module _ (x : Tables) where
       sym (first_found x.layout.settings.threads i _ lt (none_below i _ (λ k less. test_at k d false (omega arith) (h.2 k less))) (test_at i d true lt h.1))
 
   pub first_inside : (i : Option ℕ) → i ≡ position (λ (r : Thread). r.inside) (rows x 0) → i ≡ inside_shown (Some (tables_of x))
-  first_inside = let long = x.eight in first_by (some_row x.threads (omega arith))
+  first_inside = let long = x.eight in first_by (some_element x.threads 0 (omega arith))
