@@ -10,8 +10,11 @@ fn drain<M: Memory>(memory: &mut M)
 {
     // loops over the threads' numbers, since a proof knows nothing of what an iterator's closure has changed
     for thread in 0..8 {
-        // a landing is refused once no write waits
-        while memory.land(thread).is_ok() {}
+        // not `while memory.land(thread).is_ok() {}`: each edit tried on that changes the loop's name in the proof, and is refused for that alone
+        while memory.waiting(thread) > 0 {
+            // accepted, since a write waits
+            let _ = memory.land(thread);
+        }
     }
 }
 
