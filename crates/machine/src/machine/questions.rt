@@ -35,6 +35,7 @@ impl<M: Memory> Machine<M> {
     }
 
     // Where the node is. None where there is no such node.
+    #[tactic(auto, using(protocol::proofs::Asked::node_asked_lem))]
     pub fn node(&self, node: usize) -> Option<NodeState>
         ensures tables { result ≡ node_shown self.now.tables node }
         ensures history { (h : List Event) → Explains h self.now → result ≡ node_asked self.now.memory.bound h node }
@@ -43,6 +44,7 @@ impl<M: Memory> Machine<M> {
     }
 
     // The thread's retired nodes with their dates, oldest first. None where there is no such thread.
+    #[tactic(auto, using(protocol::proofs::Asked::retired_asked_lem))]
     pub fn retired(&self, thread: usize) -> Option<&[Retired]>
         ensures tables { option_map (λ x. x.now) result ≡ retired_shown self.now.tables thread }
         ensures history { (h : List Event) → Explains h self.now → option_map (λ x. x.now) result ≡ retired_asked self.now.memory.bound h thread }
@@ -59,6 +61,7 @@ impl<M: Memory> Machine<M> {
     }
 
     // The thread that is inside the lock. None where no thread is.
+    #[tactic(auto, using(protocol::proofs::Asked::inside_asked_lem))]
     pub fn inside(&self) -> Option<usize>
         ensures tables { result ≡ inside_shown self.now.tables }
         ensures history { (h : List Event) → Explains h self.now → result ≡ inside_asked h }
@@ -76,6 +79,7 @@ impl<M: Memory> Machine<M> {
     }
 
     // The settings of the set-up.
+    #[tactic(auto, using(protocol::proofs::Asked::settings_asked))]
     pub fn settings(&self) -> Option<Settings>
         ensures tables { result ≡ settings_shown self.now.tables }
         ensures history { (h : List Event) → Explains h self.now → result ≡ settings_in h }
@@ -84,6 +88,7 @@ impl<M: Memory> Machine<M> {
     }
 
     // How many calls were accepted so far, set-up not counted.
+    #[tactic(auto, using(protocol::proofs::Asked::accepted_asked_lem))]
     pub fn accepted(&self) -> Option<u32>
         ensures tables { result ≡ accepted_shown self.now.tables }
         ensures history { (h : List Event) → Explains h self.now → result ≡ accepted_asked h }

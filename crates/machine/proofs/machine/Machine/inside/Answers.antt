@@ -4,12 +4,6 @@ use Rattle.protocol.specs.Questions.{inside_asked}
 use Rattle.protocol.proofs.WhoIsInside.{names_inside}
 use Rattle.machine.proofs.machine.Machine.inside.Goals as goal
 
-pub returns-in_err-as_ref-clause-history : goal.returns-in_err-as_ref-clause-history
-returns-in_err-as_ref-clause-history g c = λ h e. search (rules, inside_asked_lem h c.args.self.now e)
-
-pub returns-clause-history : goal.returns-clause-history
-returns-clause-history g c = λ h e. search (rules, inside_asked_lem h c.args.self.now e)
-
 pub returns-in_err-as_ref-clause-law : goal.returns-in_err-as_ref-clause-law
 returns-in_err-as_ref-clause-law g c = λ h e.
     let named : c.from_residual.result ≡ inside_asked h = search (rules, inside_asked_lem h c.args.self.now e) in

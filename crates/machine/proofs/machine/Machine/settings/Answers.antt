@@ -1,9 +1,0 @@
-use Rattle.std.proofs.Common.{rules}
-use Rattle.protocol.proofs.Asked.{settings_asked}
-use Rattle.machine.proofs.machine.Machine.settings.Goals as goal
-
-pub returns-in_err-as_ref-clause-history : goal.returns-in_err-as_ref-clause-history
-returns-in_err-as_ref-clause-history g c = λ h e. search (rules, settings_asked h c.args.self.now e)
-
-pub returns-clause-history : goal.returns-clause-history
-returns-clause-history g c = λ h e. search (rules, settings_asked h c.args.self.now e)
