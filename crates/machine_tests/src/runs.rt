@@ -71,7 +71,7 @@ fn answers_over<M: Memory + Drop>(heap: Global, memory: M) -> Result<Vec<(u64, u
     let shown = completed
         .answers
         .iter()
-        .map(|answer| (answer.code(), answer.value()));
+        .map(|answer| answer.pair());
     Ok(shown.collect(heap)?)
 }
 

@@ -40,3 +40,7 @@ value_of Empty = 0
 value_of Moved = 0
 value_of (Occupied n) = n
 value_of (Refused e) = 0
+
+-- by which an answer is printed
+abbrev pub pair_of : Answer → ℕ × ℕ
+pair_of a = (code_of a, value_of a)

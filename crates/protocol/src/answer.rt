@@ -1,6 +1,6 @@
 // What the machine answers: a code and a value.
 ghost use Rattle.std.specs.Prelude.{◌≡◌};
-ghost use Rattle.protocol.specs.Codes.{code_of, value_of, number_of};
+ghost use Rattle.protocol.specs.Codes.{code_of, value_of, number_of, pair_of};
 
 #[derive(Clone, Copy, PartialEq, Eq, Debug)]
 pub enum Refusal {
@@ -61,6 +61,13 @@ impl Answer {
             Answer::Occupied(_) => 5,
             Answer::Refused(refusal) => refusal.number(),
         }
+    }
+
+    // The code with the value, by which an answer is printed.
+    pub fn pair(self) -> (u64, u64)
+        ensures { result ≡ pair_of self }
+    {
+        (self.code(), self.value())
     }
 
     pub fn value(self) -> u64

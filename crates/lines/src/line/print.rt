@@ -32,6 +32,7 @@ impl From<Answer> for Line {
     ghost from_gives = { λ answer line. bytes_of line ≡ printed (code_of answer) (value_of answer) };
 
     fn from(answer: Answer) -> Line {
-        Line::print(answer.code(), answer.value())
+        let (code, value) = answer.pair();
+        Line::print(code, value)
     }
 }
