@@ -68,10 +68,7 @@ pub(crate) const GUARDED_SWEEP: [Call; 21] = [
 // The codes and values of the calls over the memory.
 fn answers_over<M: Memory + Drop>(heap: Global, memory: M) -> Result<Vec<(u64, u64)>, Fail> {
     let completed = run(heap, memory, &GUARDED_SWEEP).map_err(|_| "no room")?;
-    let shown = completed
-        .answers
-        .iter()
-        .map(|answer| answer.pair());
+    let shown = completed.answers.iter().map(|answer| answer.pair());
     Ok(shown.collect(heap)?)
 }
 
