@@ -1,10 +1,7 @@
 use Rattle.std.proofs.Common.{rules, tests, arith}
 use Rattle.std.proofs.lemmas.Grind.{common_steps}
-use Rattle.lines.proofs.Cuts.{next_field, no_field, no_number, number_put, last_step}
+use Rattle.lines.proofs.Cuts.{next_field, no_number, number_put, last_step}
 use Rattle.lines.proofs.fields.fill.Goals as goal
-
-pub returns-in_err-next : goal.returns-in_err-next
-returns-in_err-next c = grind (arith, common_steps, no_field)
 
 pub returns-in_err-place : goal.returns-in_err-place
 returns-in_err-place c =
