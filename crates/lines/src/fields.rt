@@ -25,16 +25,20 @@ fn number(limit: u16, bytes: &[u8]) -> Option<u16>
     Some(value as u16)
 }
 
-// One number for each place, each at most `limit`, with single blanks between them. Over a slice, since a loop beside a `Split` gets no
-// goals in a function with a const parameter.
+// One number for each place, each at most `limit`, with single blanks between them. The last field is all that is left of the line: it is not
+// searched for a blank, which is no digit and so ends the reading of its number, as any other wrong byte does. Over a slice, since a loop beside
+// a `SplitN` gets no goals in a function with a const parameter.
 fn fill(limit: u16, line: &[u8], found: &mut [u16]) -> Option<()>
     ensures { option_map (λ _. found.new) result ≡ numbers limit (length found.old) line.now }
 {
-    let mut fields = line.split(|byte| *byte == b' ');
+    if found.is_empty() {
+        return None;
+    }
+    let mut fields = line.splitn(found.len(), |byte| *byte == b' ');
     for place in found {
         *place = number(limit, fields.next()?)?;
     }
-    fields.next().is_none().then_some(())
+    Some(())
 }
 
 // Exactly so many numbers, each at most `limit`, with single blanks between them.

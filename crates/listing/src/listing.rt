@@ -5,7 +5,6 @@ use held::Held;
 use immediate::Immediate;
 use machine::machine::Machine;
 use quiescing::Quiescing;
-use std::marker::Model;
 
 #[derive(Drop)]
 enum Stage {
@@ -21,15 +20,4 @@ enum Stage {
 #[derive(Drop)]
 pub struct Listing {
     stage: Stage,
-}
-
-// To a contract a listing is its session.
-impl Model for Listing {
-    ghost use Rattle.listing.specs.Session.{Session};
-
-    ghost Value = { Session };
-
-    ghost use Rattle.listing.specs.Stages.{session_at};
-
-    ghost view = { λ l. session_at l.stage };
 }

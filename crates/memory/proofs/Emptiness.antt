@@ -13,7 +13,7 @@ use Rattle.memory.specs.declared.refusal.Refusal.{Refusal}
 use Rattle.memory.specs.Meaning.{Meaning, queue, waiting_count, cell, newest, value_or, loaded, nothing_waits}
 use Rattle.memory.specs.Landings.{Lands}
 use Rattle.memory.specs.Checks.{first_no, load_checks}
-use Rattle.memory.specs.Calls.{Loads}
+use Rattle.memory.specs.Calls.{Loaded, Loads}
 use Rattle.memory.proofs.Views.{lands_empty}
 
 -- asking each thread whether anything of it waits is asking all rows
@@ -30,14 +30,17 @@ none_waits m e t = at (cases_lt t (length m.waiting))
     at (inl lt) = nil_from_length (queue m t) (eqb-true (length (queue m t)) 0 (AllPass-from_list_all (λ (ws : List Write). eqb (length ws) 0) m.waiting e t [] lt))
     at (inr le) = get_or_past m.waiting t [] le
 
--- where nothing waits, a load of a cell in range lands nothing and tells the cell
-idle_load : (c : ℕ) (m m' : Meaning) (r : Result ℕ Refusal) → c < 64 → nothing_waits m ≡ true → Loads Lands 0 c m m' r → (m' ≡ m) × (r ≡ Ok (cell m c))
+-- where nothing waits, a load lands nothing and tells the cell
+pub idle_load : (t c v : ℕ) (m m' : Meaning) → nothing_waits m ≡ true → Loaded Lands t c m m' v → (m' ≡ m) × (v ≡ cell m c)
 unfolding loaded
-idle_load c m m' (Ok v) lt e l =
-    let same : m' ≡ m = lands_empty (none_waits m e) l.does.lands in
-    let told : v ≡ cell m c = l.does.value ∙ ap (λ (x : Meaning). loaded x 0 c) same ∙ ap (λ (q : List Write). value_or (newest q c) (cell m c)) (none_waits m e 0) in
-    (same, ap Ok told)
-idle_load c m m' (Err f) lt e l =
+idle_load t c v m m' e l =
+    let same : m' ≡ m = lands_empty (none_waits m e) l.lands in
+    (same, l.value ∙ ap (λ (x : Meaning). loaded x t c) same ∙ ap (λ (q : List Write). value_or (newest q c) (cell m c)) (none_waits m e t))
+
+-- and one of a cell in range is not refused
+idle_load_in_range : (c : ℕ) (m m' : Meaning) (r : Result ℕ Refusal) → c < 64 → nothing_waits m ≡ true → Loads Lands 0 c m m' r → (m' ≡ m) × (r ≡ Ok (cell m c))
+idle_load_in_range c m m' (Ok v) lt e l = let idle = idle_load 0 c v m m' e l.does in (idle.0, ap Ok idle.1)
+idle_load_in_range c m m' (Err f) lt e l =
     let p : first_no (load_checks 0 c) ≡ None = rw (lt-ltb c 64 lt) refl in
     absurd (none-some f (sym p ∙ l.fails))
 
@@ -45,7 +48,7 @@ idle_load c m m' (Err f) lt e l =
 pub cell_told : (same : Refusal → Refusal → Bool) (c : ℕ) (begun m m' : Meaning) (r : Result ℕ Refusal) (b : Bool) → c < 64 → m ≡ begun → nothing_waits begun ≡ true → Loads Lands 0 c m m' r
     → b ≡ not (result_eq eqb same r (Ok 0)) → (m' ≡ begun) × (eqb (cell begun c) 0 ≡ not b)
 cell_told same c begun m m' r b lt e none l f =
-    let h = idle_load c m m' r lt (rw e none) l in
+    let h = idle_load_in_range c m m' r lt (rw e none) l in
     (h.0 ∙ e, go (eqb (cell begun c) 0) b (rw (h.1, e) at f))
   where
     go : (x b : Bool) → b ≡ not x → x ≡ not b

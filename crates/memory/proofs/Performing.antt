@@ -17,7 +17,7 @@ use Rattle.memory.proofs.Passing.{land_passed}
 pub asked : {c d : Call} {m m' : Meaning} {a b : Outcome} → c ≡ d → a ≡ b → Performs d m m' b → Performs c m m' a
 asked e f p = rw (e, f) p
 
-refusal_happens : (c : Call) (e : Refusal) (m m' : Meaning) → Refuses (checks_of c m) e m m' → Performs c m m' (Err e)
+pub refusal_happens : (c : Call) (e : Refusal) (m m' : Meaning) → Refuses (checks_of c m) e m m' → Performs c m m' (Err e)
 refusal_happens c e m m' r = record { landings = []; happens = refuses r.fails r.same }
 
 stored_self : (t c v : ℕ) (m : Meaning) → (stored t c v m).self_landing ≡ m.self_landing

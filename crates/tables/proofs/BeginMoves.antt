@@ -143,5 +143,5 @@ begin_done x {t} {n} {a} {b} {o} admits m d row' ns' e f =
     let own = get_or x.threads t d in
     let lt = (granted x admits).thread in
     let row : row_of row' ≡ moved_to (start_of o) (thread_of table t) = ap row_of e ∙ begins_row o own ∙ ap (moved_to (start_of o)) (sym (row_at x t d lt)) in
-    rw (rows_set x.layout.settings.threads x.threads t row' lt, row, f)
+    rw (rows_set x.layout.settings.threads x.threads t row', row, f)
     (performed (record { told = told_nothing; trans = begins_by refl (admits m).is (admits m).passes (record { memory = refl; tables = refl }) }))

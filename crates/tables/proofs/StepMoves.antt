@@ -46,7 +46,7 @@ module _ (x : Tables) (m : Meaning) (t b : ℕ) (own : Thread) (few : x.accepted
     asked = rw bound at (asks (states_of x.nodes))
 
     -- what the call's checks come to
-    step_checks : first_no (checks_of (Step t) (running x m)) ≡ first_no (request_checks t m q)
+    pub step_checks : first_no (checks_of (Step t) (running x m)) ≡ first_no (request_checks t m q)
     step_checks = asks_request (tables_of x) m t (row_of own) row_is busy few known.0 ∙ ap (λ (r : Request). first_no (request_checks t m r)) (sym asked)
 
     pub step_refused : (m' : Meaning) (e : Refusal) (r : Result Answer Refusal) → IsErrAnd r (λ y. y ≡ e) → first_no (request_checks t m q) ≡ Some e → m' ≡ m → Performs (running x m) (running x m') (Step t) (answer_of r)
@@ -60,5 +60,5 @@ module _ (x : Tables) (m : Meaning) (t b : ℕ) (own : Thread) (few : x.accepted
     step_done m' d row' ns' a k passes meets out =
         let P : Request → Type 0 = λ r. Meets t r m m' k in
         let Q : Thread → Type 0 = λ r. outcome_of row' ns' a ≡ after (sees b r (states_of x.nodes)) (at r) k in
-        rw (rows_set x.layout.settings.threads x.threads t row' known.0)
+        rw (rows_set x.layout.settings.threads x.threads t row')
         (step_moves (tables_of x) m t (row_of own) row_is m' (row_of row') (states_of ns') a k (step_checks ∙ passes) (subst P asked meets) (rw bound at (subst Q (known.1 d) out)))

@@ -1,12 +1,11 @@
-// The printed line of each input line.
+// The printed line of each input line. What is printed is a code and a value, which the functions below answer; one place prints them.
 ghost use Rattle.std.specs.Prelude.{◌≡◌};
-ghost use Rattle.protocol.specs.Calls.{Performs, begun_over};
-ghost use Rattle.protocol.specs.declared.call.Call.TheVariants.{SetUp};
+ghost use Rattle.machine.specs.State.{state};
 ghost use Rattle.lines.specs.Input.{call_in};
-ghost use Rattle.lines.specs.Output.{bytes_of};
-ghost use Rattle.listing.specs.Made.{Opened};
-ghost use Rattle.listing.specs.Session.{Prints, Responds, begun, malformed, memory_in, never};
-ghost use Rattle.listing.specs.Stages.{session_at};
+ghost use Rattle.lines.specs.Output.{bytes_of, printed};
+ghost use Rattle.listing.specs.Made.{Opened, SetsUp};
+ghost use Rattle.listing.specs.Session.{Prints, Responds, begun, memory_in, never};
+ghost use Rattle.listing.specs.Stages.{HoldsMachine, session_of};
 
 use crate::listing::{Listing, Stage};
 use held::Held;
@@ -24,60 +23,40 @@ use quiescing::Quiescing;
 // The number that a malformed line prints.
 const MALFORMED: u64 = 38;
 
-fn malformed() -> Line
-    ensures { bytes_of result ≡ malformed }
-{
-    Line::print(MALFORMED, 0)
-}
-
 // A later line: the machine is called, unless the line is malformed.
-fn respond<M: Memory>(machine: &mut Machine<M>, line: &[u8]) -> Line
-    ensures { Responds (call_in line.now) machine.old machine.new (bytes_of result) }
+fn respond<M: Memory>(machine: &mut Machine<M>, line: &[u8]) -> (u64, u64)
+    ensures { Responds (call_in line.now) (state M.meaning machine.old) (state M.meaning machine.new) (printed result.0 result.1) }
 {
     match parse_call(line) {
-        Some(call) => Line::from(machine.call(call)),
-        None => malformed(),
+        Some(call) => machine.call(call).pair(),
+        None => (MALFORMED, 0),
     }
 }
 
 // A later line after a first line that failed: every call finds a machine that is not set up.
-fn refused(line: &[u8]) -> Line
-    ensures { Responds (call_in line.now) never never (bytes_of result) }
+fn refused(line: &[u8]) -> (u64, u64)
+    ensures { Responds (call_in line.now) never never (printed result.0 result.1) }
 {
     match parse_call(line) {
-        Some(_) => Line::from(Answer::Refused(Refusal::NotSetUp)),
-        None => malformed(),
+        Some(_) => Answer::Refused(Refusal::NotSetUp).pair(),
+        None => (MALFORMED, 0),
     }
 }
 
-// A machine begun new over the memory and set up, with what set-up answers.
-fn set_up<M: Memory>(memory: M, settings: Settings) -> (Machine<M>, Answer)
-    ensures { Performs (begun_over (M.meaning memory)) result.0 (SetUp settings) result.1 }
-{
-    let mut machine = Machine::new(memory);
-    let answer = machine.set_up(settings);
-    (machine, answer)
-}
-
-// The machine over the memory that the first line names, with what set-up answers: a held or an immediate memory, which have no
-// limit, or a layer with the limit over a held memory. Refused where the memory cannot be made.
-fn open(head: &Head) -> Result<(Stage, Answer), MemoryRefusal>
-    ensures { Opened head.now (memory_in head.now) result }
+// A machine begun new over the memory that the first line names: a held or an immediate memory, which have no limit, or a layer with the
+// limit over a held memory. Refused where the memory cannot be made.
+fn open(head: &Head) -> Result<Stage, MemoryRefusal>
+    ensures { Opened (memory_in head.now) result }
 {
     match (MemoryKind::try_from(head.memory), head.limit) {
-        (Ok(MemoryKind::Held), 0) => {
-            let (machine, answer) = set_up(Held::new(head.bound)?, head.settings);
-            Ok((Stage::Held(machine), answer))
-        }
+        (Ok(MemoryKind::Held), 0) => { Ok(Stage::Held(Machine::new(Held::new(head.bound)?))) }
         (Ok(MemoryKind::Immediate), 0) => {
-            let (machine, answer) = set_up(Immediate::new(head.bound)?, head.settings);
-            Ok((Stage::Immediate(machine), answer))
+            Ok(Stage::Immediate(Machine::new(Immediate::new(head.bound)?)))
         }
         (Ok(MemoryKind::Quiescing), limit) => {
             let below = Held::new(head.bound)?;
             let layer = Quiescing::new(below, limit)?;
-            let (machine, answer) = set_up(layer, head.settings);
-            Ok((Stage::Quiescing(machine), answer))
+            Ok(Stage::Quiescing(Machine::new(layer)))
         }
         _ => Err(MemoryRefusal::NotMade),
     }
@@ -86,33 +65,46 @@ fn open(head: &Head) -> Result<(Stage, Answer), MemoryRefusal>
 impl Listing {
     // No line has come yet.
     pub fn new() -> Listing
-        ensures { result ≡ begun }
+        ensures { session_of result ≡ begun }
     {
         Listing {
             stage: Stage::Begun,
         }
     }
 
-    // The first line.
-    fn first(&mut self, line: &[u8]) -> Line
-        ensures { Prints begun line.now self.new (bytes_of result) }
+    // Sets the machine up in its place: it is ten kilobytes and more, and would be copied otherwise.
+    fn set_up(&mut self, settings: Settings) -> (u64, u64)
+        requires { HoldsMachine self.old.stage }
+        ensures { SetsUp (session_of self.old) settings (session_of self.new) (printed result.0 result.1) }
     {
-        self.stage = Stage::Failed;
-        let Some(head) = parse_head(line) else {
-            return malformed();
-        };
-        match open(&head) {
-            Ok((stage, answer)) => {
-                self.stage = stage;
-                Line::from(answer)
-            }
-            Err(refusal) => Line::print(u64::from(refusal.number()), 0),
+        match &mut self.stage {
+            Stage::Held(machine) => machine.set_up(settings).pair(),
+            Stage::Immediate(machine) => machine.set_up(settings).pair(),
+            Stage::Quiescing(machine) => machine.set_up(settings).pair(),
+            Stage::Begun | Stage::Failed => unreachable(),
         }
     }
 
-    // The printed line of an input line, which is given without its newline.
-    pub fn line(&mut self, line: &[u8]) -> Line
-        ensures { Prints self.old line.now self.new (bytes_of result) }
+    // The first line: begins a machine new over the memory that it names, and sets it up.
+    fn first(&mut self, line: &[u8]) -> (u64, u64)
+        ensures { Prints begun line.now (session_of self.new) (printed result.0 result.1) }
+    {
+        self.stage = Stage::Failed;
+        let Some(head) = parse_head(line) else {
+            return (MALFORMED, 0);
+        };
+        match open(&head) {
+            Ok(stage) => {
+                self.stage = stage;
+                self.set_up(head.settings)
+            }
+            Err(refusal) => (u64::from(refusal.number()), 0),
+        }
+    }
+
+    // The code and the value that a line prints.
+    fn answer(&mut self, line: &[u8]) -> (u64, u64)
+        ensures { Prints (session_of self.old) line.now (session_of self.new) (printed result.0 result.1) }
     {
         match &mut self.stage {
             Stage::Begun => self.first(line),
@@ -121,5 +113,13 @@ impl Listing {
             Stage::Immediate(machine) => respond(machine, line),
             Stage::Quiescing(machine) => respond(machine, line),
         }
+    }
+
+    // The printed line of an input line, which is given without its newline.
+    pub fn line(&mut self, line: &[u8]) -> Line
+        ensures { Prints (session_of self.old) line.now (session_of self.new) (bytes_of result) }
+    {
+        let (code, value) = self.answer(line);
+        Line::print(code, value)
     }
 }

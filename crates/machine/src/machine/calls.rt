@@ -3,6 +3,7 @@
 // Four calls repeat `let Some(tables) = ..`: they differ in the call of the tables, and a helper that took it as a closure would
 // promise by the closure's predicates what each call promises plainly.
 ghost use Rattle.std.specs.Prelude.{◌≡◌};
+ghost use Rattle.machine.specs.State.{state};
 ghost use Rattle.protocol.specs.Calls.{Performs, begun_over};
 ghost use Rattle.protocol.specs.declared.call.Call.TheVariants.{SetUp, Tick, Land, Begin, Step};
 
@@ -17,7 +18,7 @@ use tables::tables::Tables;
 impl<M: Memory> Machine<M> {
     // A machine over the memory, which is not set up.
     pub fn new(memory: M) -> Machine<M>
-        ensures { result ≡ begun_over (M.meaning memory) }
+        ensures { state M.meaning result ≡ begun_over (M.meaning memory) }
     {
         Machine {
             memory,
@@ -28,7 +29,7 @@ impl<M: Memory> Machine<M> {
     // Sets the machine up. Refused, in this order, where it is set up already, where a setting is out of range, and where the
     // memory is not new.
     pub fn set_up(&mut self, settings: Settings) -> Answer
-        ensures { Performs self.old self.new (SetUp settings) result }
+        ensures { Performs (state M.meaning self.old) (state M.meaning self.new) (SetUp settings) result }
     {
         if self.tables.is_some() {
             return Answer::Refused(Refusal::AlreadySetUp);
@@ -45,7 +46,7 @@ impl<M: Memory> Machine<M> {
 
     // Adds one to the clock.
     pub fn tick(&mut self) -> Answer
-        ensures { Performs self.old self.new Tick result }
+        ensures { Performs (state M.meaning self.old) (state M.meaning self.new) Tick result }
     {
         let Some(tables) = &mut self.tables else {
             return Answer::Refused(Refusal::NotSetUp);
@@ -57,7 +58,7 @@ impl<M: Memory> Machine<M> {
 
     // Lands the thread's oldest waiting write.
     pub fn land(&mut self, thread: usize) -> Answer
-        ensures { Performs self.old self.new (Land thread) result }
+        ensures { Performs (state M.meaning self.old) (state M.meaning self.new) (Land thread) result }
     {
         let Some(tables) = &mut self.tables else {
             return Answer::Refused(Refusal::NotSetUp);
@@ -69,7 +70,7 @@ impl<M: Memory> Machine<M> {
 
     // Gives an idle thread the operation of this number, with two arguments.
     pub fn begin(&mut self, thread: usize, operation: usize, a: usize, b: usize) -> Answer
-        ensures { Performs self.old self.new (Begin thread operation a b) result }
+        ensures { Performs (state M.meaning self.old) (state M.meaning self.new) (Begin thread operation a b) result }
     {
         let Some(tables) = &mut self.tables else {
             return Answer::Refused(Refusal::NotSetUp);
@@ -81,7 +82,7 @@ impl<M: Memory> Machine<M> {
 
     // Does the next step of the thread's operation.
     pub fn step(&mut self, thread: usize) -> Answer
-        ensures { Performs self.old self.new (Step thread) result }
+        ensures { Performs (state M.meaning self.old) (state M.meaning self.new) (Step thread) result }
     {
         let Some(tables) = &mut self.tables else {
             return Answer::Refused(Refusal::NotSetUp);

@@ -1,5 +1,6 @@
 // Calls by their name, and a whole list of calls on a machine begun new.
 ghost use Rattle.std.specs.Prelude.{◌≡◌};
+ghost use Rattle.machine.specs.State.{state};
 ghost use Rattle.machine.specs.Run.{RunAs};
 ghost use Rattle.protocol.specs.Calls.{Performs};
 
@@ -12,7 +13,7 @@ use std::alloc::Global;
 impl<M: Memory> Machine<M> {
     // Makes one call.
     pub fn call(&mut self, call: Call) -> Answer
-        ensures { Performs self.old self.new call result }
+        ensures { Performs (state M.meaning self.old) (state M.meaning self.new) call result }
     {
         match call {
             Call::SetUp(settings) => self.set_up(settings),
@@ -31,7 +32,7 @@ impl<M: Memory> Machine<M> {
 
 // A machine after a list of calls, with every answer.
 #[derive(Drop)]
-pub struct Completed<M: Memory> {
+pub struct Completed<M> {
     pub machine: Machine<M>,
     pub answers: Vec<Answer>,
 }

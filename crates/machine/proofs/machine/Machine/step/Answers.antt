@@ -3,4 +3,4 @@ use Rattle.tables.proofs.Admission.{refused}
 use Rattle.machine.proofs.machine.Machine.step.Goals as goal
 
 pub returns-in_default : goal.returns-in_default
-returns-in_default g c = rw (← c.self.view_is, c.in_default.is) (refused refl)
+returns-in_default g c = rw c.in_default.is (refused refl)
