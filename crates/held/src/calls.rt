@@ -99,10 +99,6 @@ impl Memory for Held {
         ensures call { Ticks Lands (held self.old) (held self.new) result }
         ensures exact { Ticks Stays (held self.old) (held self.new) result }
     {
-        // asked before the buffers are searched: at its end the clock refuses whatever waits
-        if self.shared.clock() >= 1_000_000 {
-            return Err(Refusal::ClockAtEnd);
-        }
         let write_due = self.some_due();
         self.shared.tick(write_due)
     }

@@ -1,4 +1,4 @@
-use Rattle.std.proofs.Common.{◌≡◌, ◌-◌, ◌<◌, true, length, take}
+use Rattle.std.proofs.Common.{◌≡◌, ◌-◌, true, length, take}
 use Rattle.lines.specs.Text.{numbers}
 use Rattle.lines.proofs.Cuts.{fields_left, numbers_with}
 use Rattle.lines.proofs.fields.fill.Given as goal

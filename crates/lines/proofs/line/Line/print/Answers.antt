@@ -16,18 +16,18 @@ line_printed : (out buf : List ℕ) (start blank code value : ℕ) → code < 2 
     → drop start out ≡ decimal code ++ drop blank (set buf blank 32) → drop (blank + 1) buf ≡ decimal value ++ 10 ∷ [] → drop start out ≡ printed code value
 line_printed out buf start blank code value h k lt e f = rw (e, drop-set buf blank 32 lt, f, decimal_printed code h, decimal_printed value k)
 
-pub write_digits-blank-requires : goal.write_digits-blank-requires
-write_digits-blank-requires c = search (rules, length-decimal-le 20)
+pub write_number-blank-requires : goal.write_number-blank-requires
+write_number-blank-requires c = search (rules, length-decimal-le 20)
 
 pub overflow_sub-blank : goal.overflow_sub-blank
 overflow_sub-blank c = omega (arith, short c.args.value (omega arith))
 
-pub write_digits-start-requires : goal.write_digits-start-requires
-write_digits-start-requires c = (omega (arith, short c.args.value (omega arith), short c.args.code (omega arith)), grind (arith, common_steps))
+pub write_number-start-requires : goal.write_number-start-requires
+write_number-start-requires c = (omega (arith, short c.args.value (omega arith), short c.args.code (omega arith)), grind (arith, common_steps))
 
 pub returns : goal.returns
 returns c =
-    let blank = c.write_digits-blank.result - 1 in
-    let next : blank + 1 ≡ c.write_digits-blank.result = omega (arith, short c.args.value (omega arith)) in
-    line_printed c.write_digits-start.new.buf c.write_digits-blank.new.buf c.write_digits-start.result blank c.args.code c.args.value (omega arith) (omega arith)
-    (omega arith) c.write_digits-start.ensures.written (rw next c.write_digits-blank.ensures.written)
+    let blank = c.write_number-blank.result - 1 in
+    let next : blank + 1 ≡ c.write_number-blank.result = omega (arith, short c.args.value (omega arith)) in
+    line_printed c.write_number-start.new.out c.write_number-blank.new.out c.write_number-start.result blank c.args.code c.args.value (omega arith) (omega arith)
+    (omega arith) c.write_number-start.ensures.written (rw next c.write_number-blank.ensures.written)
